@@ -1,0 +1,11 @@
+use Rattle.records.proofs.ZoneBytes.{sized, apart}
+use Rattle.records.proofs.zones.ZoneRecord.the-impl.Needs as need
+
+pub sized-law : need.sized-law
+sized-law e = sized e
+
+pub reads-back-law : need.reads-back-law
+reads-back-law last e right = right
+
+pub apart-law : need.apart-law
+apart-law e f _ _ is = apart e f is

@@ -1,0 +1,6 @@
+pub mod Codec
+pub mod Groups
+pub mod Holidays
+pub mod Named
+pub mod TimeSets
+pub mod Zones

@@ -1,0 +1,2 @@
+// Tables of numbered records.
+pub mod entry;
