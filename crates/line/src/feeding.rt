@@ -146,6 +146,13 @@ impl Line<Listening> {
         }
     }
 
+    // How many bytes of an unfinished frame the line has.
+    pub fn bytes_waiting(&self) -> usize
+        ensures { λ r. ⌜ r ≡ length (unfinished (now (self .entry))) ⌝ }
+    {
+        self.state.have
+    }
+
     // Takes the piece up to the byte that makes an order ready, or all of it.
     pub fn feed(self, piece: &[u8]) -> Fed
         ensures rule { λ r. ⌜ heard r ≡ hears (self .tid) (unfinished self) (now (piece .entry)) ⌝ }

@@ -20,7 +20,7 @@ pub ranges-read : (bs : List ℕ) (start end : TimeOfDay) → time-set-number (g
 ranges-read bs start end right s e ordered =
     and-from _ _ right
     (and-from _ _ (and-from _ _ (lt-ltb (getD bs 1 0) 24 (omega (arith, start .hours))) (lt-ltb (getD bs 2 0) 60 (omega (arith, start .minutes))))
-      (and-from _ _ (and-from _ _ (lt-ltb (getD bs 3 0) 24 (omega (arith, end .hours))) (lt-ltb (getD bs 4 0) 60 (omega (arith, end .minutes)))) (le-leb (minute-of-day (getD bs 1 0) (getD bs 2 0)) (minute-of-day (getD bs 3 0) (getD bs 4 0)) (omega arith))))
+    (and-from _ _ (and-from _ _ (lt-ltb (getD bs 3 0) 24 (omega (arith, end .hours))) (lt-ltb (getD bs 4 0) 60 (omega (arith, end .minutes)))) (le-leb (minute-of-day (getD bs 1 0) (getD bs 2 0)) (minute-of-day (getD bs 3 0) (getD bs 4 0)) (omega arith))))
 
 pub ranges-right : (e : Entry TimeSet) → time-set-number (e .number) ≡ true → time-set-ranges (time-set-bytes e) ≡ true
 ranges-right e right = ranges-read (time-set-bytes e) (e .body .start) (e .body .end) right (refl, refl) (refl, refl) (e .body .ordered)

@@ -3,4 +3,5 @@ pub mod Groups
 pub mod Holidays
 pub mod Named
 pub mod TimeSets
+pub mod Windows
 pub mod Zones

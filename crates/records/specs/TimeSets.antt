@@ -17,4 +17,4 @@ time-set-bytes e = e .number ∷ e .body .start .hour ∷ e .body .start .minute
 abbrev pub time-set-ranges : List ℕ → Bool
 time-set-ranges bs =
     time-set-number (getD bs 0 0) && (real-time (getD bs 1 0) (getD bs 2 0) && (real-time (getD bs 3 0) (getD bs 4 0)
-      && leb (minute-of-day (getD bs 1 0) (getD bs 2 0)) (minute-of-day (getD bs 3 0) (getD bs 4 0))))
+    && leb (minute-of-day (getD bs 1 0) (getD bs 2 0)) (minute-of-day (getD bs 3 0) (getD bs 4 0))))

@@ -9,6 +9,9 @@ pub mod record;
 pub mod row;
 pub mod time_set;
 pub mod time_sets;
+pub mod user;
+pub mod window;
+mod windows;
 pub mod zone;
 pub mod zones;
 
@@ -18,4 +21,8 @@ pub use record::Misfit;
 pub use record::Record;
 pub use row::Row;
 pub use time_set::TimeSet;
+pub use user::Status;
+pub use user::User;
+pub use window::Validity;
+pub use window::Window;
 pub use zone::Zone;

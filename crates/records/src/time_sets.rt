@@ -41,7 +41,13 @@ pub impl Record for TimeSet as TimeSetRecord {
         };
         let start = item.body.start;
         let end = item.body.end;
-        let bytes = [number, start.hour(), start.minute(), end.hour(), end.minute()];
+        let bytes = [
+            number,
+            start.hour(),
+            start.minute(),
+            end.hour(),
+            end.minute(),
+        ];
         place(&bytes, out)
     }
 }

@@ -1,0 +1,5 @@
+pub mod BackLaws
+pub mod FieldLaws
+pub mod FitLaws
+pub mod HexLaws
+pub mod LineLaws
