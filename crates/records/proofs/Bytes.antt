@@ -18,6 +18,14 @@ three-bytes (a ∷ b ∷ []) few = absurd (omega arith)
 three-bytes (a ∷ b ∷ c ∷ []) few = refl
 three-bytes (a ∷ b ∷ c ∷ d ∷ bs) many = absurd (omega arith)
 
+pub four-bytes : (bs : List ℕ) → length bs ≡ 4 → getD bs 0 0 ∷ getD bs 1 0 ∷ getD bs 2 0 ∷ getD bs 3 0 ∷ [] ≡ bs
+four-bytes [] few = absurd (omega arith)
+four-bytes (a ∷ []) few = absurd (omega arith)
+four-bytes (a ∷ b ∷ []) few = absurd (omega arith)
+four-bytes (a ∷ b ∷ c ∷ []) few = absurd (omega arith)
+four-bytes (a ∷ b ∷ c ∷ d ∷ []) few = refl
+four-bytes (a ∷ b ∷ c ∷ d ∷ e ∷ bs) many = absurd (omega arith)
+
 pub five-bytes : (bs : List ℕ) → length bs ≡ 5 → getD bs 0 0 ∷ getD bs 1 0 ∷ getD bs 2 0 ∷ getD bs 3 0 ∷ getD bs 4 0 ∷ [] ≡ bs
 five-bytes [] few = absurd (omega arith)
 five-bytes (a ∷ []) few = absurd (omega arith)

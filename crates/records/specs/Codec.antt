@@ -3,7 +3,6 @@ use mathlib.Core.Path.{_≡_}
 use mathlib.Core.Bool.{Bool, true, false}
 use mathlib.Core.List.{List, _++_}
 use Prim.Native.Nat.{ℕ, _<_}
-use denote.Ref.{now, RefT}
 use lib.Dec.{ltb}
 use lib.ListN.{length, drop}
 use Rattle.std.specs.declared.result.Result.{Result}
@@ -23,9 +22,6 @@ abbrev pub Writes : ℕ → Bool → List ℕ → List ℕ → List ℕ → Resu
 Writes size holds bytes before after (Ok n) = (n ≡ size) × (after ≡ bytes ++ drop size before) × (holds ≡ true)
 Writes size holds bytes before after (Err Size) = (length before < size) × (after ≡ before) × (holds ≡ true)
 Writes size holds bytes before after (Err Range) = (holds ≡ false) × (after ≡ before)
-
-abbrev pub part-bytes : RefT (List ℕ) → List ℕ
-part-bytes p = now p
 
 -- the number of most records has one byte
 abbrev pub one-byte : ℕ → Bool

@@ -1,13 +1,14 @@
 // What the kinds of record share.
 ghost use mathlib.Core.Path.{_≡_};
 ghost use mathlib.Core.Bool.{true, false};
-ghost use lib.ListN.{length};
+ghost use mathlib.Core.List.{_++_};
+ghost use Prim.Native.Nat.{_+_, _≤_};
+ghost use lib.ListN.{length, take};
 ghost use Rattle.std.specs.shelf.Digits.{number};
-ghost use Rattle.std.specs.shelf.Lists.{joined};
 ghost use Rattle.std.specs.Results.{Cases as ByOk};
 ghost use Rattle.calendar.specs.Days.{real-time, date-of-some-year};
 ghost use Rattle.records.specs.declared.record.Misfit.the-variants.{Range};
-ghost use Rattle.records.specs.Codec.{Writes, part-bytes};
+ghost use Rattle.records.specs.Codec.{Writes};
 use crate::record::Misfit;
 use calendar::MonthDay;
 use calendar::TimeOfDay;
@@ -44,27 +45,21 @@ pub(crate) fn place(bytes: &[u8], out: &mut [u8]) -> Result<usize, Misfit>
     Ok(size)
 }
 
-// Copies parts to the start of the buffer, one behind the other, if they go into it.
-pub(crate) fn place_parts(parts: &[&[u8]], size: usize, out: &mut [u8]) -> Result<usize, Misfit>
-    requires { ⌜ size ≡ length (joined part-bytes (now parts)) ⌝ }
-    ensures { λ r. ⌜ Writes size true (joined part-bytes (now (parts .entry))) (now (out .entry)) (now (out .exit)) r ⌝ }
-{
-    if out.len() < size {
-        return Err(Misfit::Size);
-    }
-    let mut at = 0;
-    for part in parts {
-        let end = at + part.len();
-        out[at..end].copy_from_slice(part);
-        at = end;
-    }
-    Ok(size)
-}
-
 // A number of four bytes, highest first.
 pub(crate) fn number_of(bytes: &[u8]) -> u32
     requires { ⌜ length (now bytes) ≡ 4 ⌝ }
     ensures { λ r. ⌜ r ≡ number 256 (now (bytes .entry)) ⌝ }
 {
     u32::from_be_bytes([bytes[0], bytes[1], bytes[2], bytes[3]])
+}
+
+// Copies a part to a place of the buffer, and tells where it ends.
+pub(crate) fn append(bytes: &mut [u8], at: usize, part: &[u8]) -> usize
+    requires { ⌜ at + length (now part) ≤ length (now bytes) ⌝ }
+    ensures end { λ r. ⌜ r ≡ at + length (now (part .entry)) ⌝ }
+    ensures front { λ r. ⌜ take r (now (bytes .exit)) ≡ take at (now (bytes .entry)) ++ now (part .entry) ⌝ }
+{
+    let end = at + part.len();
+    bytes[at..end].copy_from_slice(part);
+    end
 }

@@ -10,6 +10,7 @@ pub mod row;
 pub mod time_set;
 pub mod time_sets;
 pub mod user;
+pub mod users;
 pub mod window;
 mod windows;
 pub mod zone;
