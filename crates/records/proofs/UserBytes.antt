@@ -15,7 +15,7 @@ use lib.ListN.{length, getD, take, drop}
 use Rattle.std.specs.shelf.Digits.{number}
 use Rattle.std.specs.shelf.Lists.{between}
 use Rattle.std.proofs.shelf.Lists.{append-nil, append-assoc, length-append, length-drop, length-take-le, take-append-drop, drop-drop, drop-more, take-all, take-at, drop-at, getD-take, getD-drop, getD-past, length-take}
-use Rattle.std.proofs.shelf.Tests.{cases-lt, ltb-true, le-leb, and-from, and-parts}
+use Rattle.std.proofs.shelf.Tests.{cases-lt, ltb-true, le-leb, lt-leb, and-from, and-parts, and-right}
 use Rattle.records.proofs.Bytes.{four-bytes}
 use Rattle.tables.specs.declared.entry.Entry.{Entry}
 use Rattle.records.specs.declared.user.Status.{Status}
@@ -203,3 +203,7 @@ ranges-right last e right =
     (ap (take 11) behind-name ∙ take-at (window-bytes (u .window)) _ 11 (window-sized (u .window)))
     (sym (getD-drop 54 (user-bytes e) 0 0) ∙ ap (λ l. getD l 0 0) behind-window)
     (sym (getD-drop 54 (user-bytes e) 1 0) ∙ ap (λ l. getD l 1 0) behind-window) (parts .0) (window-right (u .window)) (status-right (u .status)) (le-leb (u .kind) 5 (u .kinds))
+
+pub kind-wrong : (last : ℕ) (bs : List ℕ) → 5 < getD bs 55 0 → user-ranges last bs ≡ false
+kind-wrong last bs wrong =
+    and-right (user-number last (number 256 (between 0 4 bs))) _ (and-right (window-ranges (between 43 54 bs)) _ (and-right (leb (getD bs 54 0) 1) _ (lt-leb (getD bs 55 0) 5 wrong)))

@@ -3,16 +3,16 @@ use Prim.Native.Nat.{ℕ, _<_}
 use native.Mathlib.Omega.{arith}
 use lib.ListN.{getD, take}
 use Rattle.std.proofs.shelf.Lists.{length-take-le}
-use Rattle.std.proofs.shelf.Tests.{le-leb, lt-leb, and-left, and-right}
+use Rattle.std.proofs.shelf.Tests.{le-leb, and-left}
 use Rattle.records.specs.Users.{four, user-number}
-use Rattle.records.proofs.UserBytes.{four-back, part-byte, user-read, ranges-from}
+use Rattle.records.proofs.UserBytes.{four-back, part-byte, user-read, ranges-from, kind-wrong}
 use Rattle.records.proofs.users.UserRecord.from_bytes.Needs as need
 
 pub returns-then-not-is-user : need.returns-then-not-is-user
 returns-then-not-is-user c = (omega arith, and-left _ _ (ap (user-number (c .args .last-user)) (sym (c .number-of-number .ensures)) ∙ sym (c .is-user .ensures) ∙ c .if-not-is-user .taken))
 
 pub returns-then-bytes-gt-LAST-TYPE : need.returns-then-bytes-gt-LAST-TYPE
-returns-then-bytes-gt-LAST-TYPE c = (omega arith, and-right _ _ (and-right _ _ (and-right _ _ (lt-leb (getD (c .args .bytes .now) 55 0) 5 (c .if-bytes-gt-LAST-TYPE .taken)))))
+returns-then-bytes-gt-LAST-TYPE c = (omega arith, kind-wrong (c .args .last-user) (c .args .bytes .now) (c .if-bytes-gt-LAST-TYPE .taken))
 
 pub returns : need.returns
 returns c =
