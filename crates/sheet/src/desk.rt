@@ -1,6 +1,10 @@
 // The controller's line at the desk where a sheet is replayed, and the tally of what was carried out.
+ghost use Prim.Native.Nat.{_<_, _≤_};
+ghost use lib.ListN.{length};
+use crate::contents::tell_records;
+use crate::order::Note;
 use crate::order::NoteDisplay;
-use crate::order::next_order;
+use line::Fed;
 use line::FrameBuffer;
 use line::Line;
 use line::Listening;
@@ -11,8 +15,10 @@ use std::alloc::Global;
 use std::fmt;
 use std::io;
 
-// The TID of a sheet that has no setup line.
+// What a sheet without a setup line is set up with.
 const TID: u16 = 0x0001;
+
+const LAST_USER: u32 = 1000;
 
 #[derive(Clone, Copy)]
 pub struct Tally {
@@ -40,6 +46,7 @@ pub impl fmt::Display for Tally as TallyDisplay {
 #[derive(Drop)]
 pub struct Desk {
     line: Line<Listening>,
+    last_user: u32,
     tally: Tally,
     // Has an entry been carried out?
     began: bool,
@@ -56,6 +63,7 @@ impl Desk {
         };
         Ok(Desk {
             line: Line::new(TID, FrameBuffer::new(heap)?),
+            last_user: LAST_USER,
             tally,
             began: false,
         })
@@ -79,9 +87,39 @@ impl Desk {
     }
 }
 
-// Feeds a piece to its end and prints a line for each order that becomes ready.
+// What is told of an order that is ready: whether it is right, and its records.
+fn tell_order(rt: &LibcRuntime, last_user: u32, frame: &[u8]) -> io::Result<bool> {
+    let Some(note) = Note::of(frame) else {
+        return Ok(false);
+    };
+    println!(rt, "# {note}")?;
+    tell_records(rt, last_user, frame)?;
+    Ok(note.is_right())
+}
+
+// Feeds bytes up to the next order that becomes ready, tells of it and withdraws it.
+fn next_order(
+    rt: &LibcRuntime,
+    last_user: u32,
+    line: Line<Listening>,
+    bytes: &[u8],
+) -> (Line<Listening>, Option<io::Result<bool>>, usize)
+    ensures within { λ r. ⌜ r .2 ≤ length (now (bytes .entry)) ⌝ }
+    ensures goes_on { λ r. ⌜ (0 < length (now (bytes .entry)) → 0 < r .2) ⌝ }
+{
+    match line.feed(bytes) {
+        Fed::Waiting(line, taken) => (line, None, taken),
+        Fed::Ready(line, pending, taken) => {
+            let told = tell_order(rt, last_user, line.frame());
+            (line.withdraw(pending), Some(told), taken)
+        }
+    }
+}
+
+// Feeds a piece to its end and counts the orders that become ready.
 fn feed_all(
     rt: &LibcRuntime,
+    last_user: u32,
     line: Line<Listening>,
     tally: &mut Tally,
     bytes: &[u8],
@@ -89,16 +127,15 @@ fn feed_all(
     let mut line = line;
     let mut at = 0;
     while at < bytes.len() {
-        let (next, note, taken) = next_order(line, &bytes[at..bytes.len()]);
+        let (next, told, taken) = next_order(rt, last_user, line, &bytes[at..bytes.len()]);
         line = next;
         at += taken;
-        if let Some(note) = note {
-            if note.is_right() {
+        if let Some(told) = told {
+            if told? {
                 tally.right = tally.right.saturating_add(1);
             } else {
                 tally.wrong = tally.wrong.saturating_add(1);
             }
-            println!(rt, "# {note}")?;
         }
     }
     Ok(line)
@@ -109,6 +146,7 @@ pub fn carry_out(rt: &LibcRuntime, desk: Desk, entry: &Entry) -> io::Result<Desk
     let heap = rt.alloc();
     let Desk {
         mut line,
+        mut last_user,
         mut tally,
         began: _,
     } = desk;
@@ -116,16 +154,17 @@ pub fn carry_out(rt: &LibcRuntime, desk: Desk, entry: &Entry) -> io::Result<Desk
         Entry::Setup(setup) => {
             rt.println(line_of(heap, entry)?)?;
             line = Line::new(setup.tid, FrameBuffer::new(heap)?);
+            last_user = setup.last_user;
         }
         Entry::Send(bytes) => {
             rt.println(line_of(heap, entry)?)?;
             tally.sent = tally.sent.saturating_add(1);
-            line = feed_all(rt, line, &mut tally, bytes)?;
+            line = feed_all(rt, last_user, line, &mut tally, bytes)?;
         }
         Entry::Withdraw(bytes) => {
             rt.println(line_of(heap, entry)?)?;
             tally.withdrawn = tally.withdrawn.saturating_add(1);
-            line = feed_all(rt, line, &mut tally, bytes)?;
+            line = feed_all(rt, last_user, line, &mut tally, bytes)?;
         }
         Entry::Show(_) => {
             rt.println(line_of(heap, entry)?)?;
@@ -136,5 +175,10 @@ pub fn carry_out(rt: &LibcRuntime, desk: Desk, entry: &Entry) -> io::Result<Desk
         }
     }
     let began = true;
-    Ok(Desk { line, tally, began })
+    Ok(Desk {
+        line,
+        last_user,
+        tally,
+        began,
+    })
 }

@@ -1,4 +1,5 @@
 // Replays one controller's sheet: what was sent to it, read from standard input, and what became of it.
+mod contents;
 mod desk;
 mod order;
 

@@ -1,0 +1,3 @@
+// Examples of the rules, run: the edges of every range, on both sides.
+#[cfg(test)]
+mod edges;
