@@ -14,6 +14,3 @@ pub use moment::Moment;
 pub use month_day::MonthDay;
 pub use time_of_day::TimeOfDay;
 pub use week::Weekday;
-
-#[cfg(test)]
-mod tests;

@@ -11,6 +11,3 @@ pub use state::Holding;
 pub use state::Line;
 pub use state::Listening;
 pub use state::PendingReply;
-
-#[cfg(test)]
-mod tests;

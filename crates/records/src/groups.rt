@@ -25,7 +25,7 @@ fn are_zones(zones: &[u8]) -> bool
 }
 
 pub impl Record for Group as GroupRecord {
-    ghost size = { 10 };
+    ghost long = { 10 };
 
     ghost encoded = { group-bytes };
 
@@ -34,6 +34,10 @@ pub impl Record for Group as GroupRecord {
     ghost holds = { one-byte };
 
     ghost numbers = { λ _ n. group-number n };
+
+    fn size() -> usize {
+        GROUP_SIZE
+    }
 
     fn from_bytes(_last_user: u32, bytes: &[u8]) -> Result<Entry<Group>, Misfit> {
         if bytes.len() != GROUP_SIZE {

@@ -11,7 +11,7 @@ use crate::record::Record;
 use tables::entry::Entry;
 
 pub impl Record for Holiday as HolidayRecord {
-    ghost size = { 3 };
+    ghost long = { 3 };
 
     ghost encoded = { holiday-bytes };
 
@@ -20,6 +20,10 @@ pub impl Record for Holiday as HolidayRecord {
     ghost holds = { one-byte };
 
     ghost numbers = { λ _ n. holiday-number n };
+
+    fn size() -> usize {
+        HOLIDAY_SIZE
+    }
 
     fn from_bytes(_last_user: u32, bytes: &[u8]) -> Result<Entry<Holiday>, Misfit> {
         if bytes.len() != HOLIDAY_SIZE {

@@ -22,7 +22,7 @@ pub enum Misfit {
 // user's number and nothing else.
 pub trait Record: Sized {
     // How many bytes it has.
-    ghost size: { ℕ };
+    ghost long: { ℕ };
 
     // Its bytes.
     ghost encoded: { Entry Self → List ℕ };
@@ -36,7 +36,7 @@ pub trait Record: Sized {
     // Which numbers a record may have, under that last user number.
     ghost numbers: { ℕ → ℕ → Bool };
 
-    law sized: { (e : Entry Self) → length (encoded e) ≡ size };
+    law sized: { (e : Entry Self) → length (encoded e) ≡ long };
 
     // A record that may stand in a table reads back from its bytes.
     law reads_back: { (last : ℕ) (e : Entry Self) → numbers last (e .number) ≡ true → ranges last (encoded e) ≡ true };
@@ -44,10 +44,13 @@ pub trait Record: Sized {
     // No two records have the same bytes.
     law apart: { (e f : Entry Self) → holds (e .number) ≡ true → holds (f .number) ≡ true → encoded e ≡ encoded f → e ≡ f };
 
+    fn size() -> usize
+        ensures { λ r. ⌜ r ≡ long ⌝ };
+
     fn from_bytes(last_user: u32, bytes: &[u8]) -> Result<Entry<Self>, Misfit>
-        ensures { λ r. ⌜ Reads size encoded (ranges «last_user») (now (bytes .entry)) r ⌝ };
+        ensures { λ r. ⌜ Reads long encoded (ranges «last_user») (now (bytes .entry)) r ⌝ };
 
     // Writes the record from the start of the buffer, and tells how many bytes it has.
     fn write(item: &Entry<Self>, out: &mut [u8]) -> Result<usize, Misfit>
-        ensures { λ r. ⌜ Writes size (holds (now (item .entry) .number)) (encoded (now (item .entry))) (now (out .entry)) (now (out .exit)) r ⌝ };
+        ensures { λ r. ⌜ Writes long (holds (now (item .entry) .number)) (encoded (now (item .entry))) (now (out .entry)) (now (out .exit)) r ⌝ };
 }

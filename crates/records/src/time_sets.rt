@@ -11,7 +11,7 @@ use crate::time_set::TimeSet;
 use tables::entry::Entry;
 
 pub impl Record for TimeSet as TimeSetRecord {
-    ghost size = { 5 };
+    ghost long = { 5 };
 
     ghost encoded = { time-set-bytes };
 
@@ -20,6 +20,10 @@ pub impl Record for TimeSet as TimeSetRecord {
     ghost holds = { one-byte };
 
     ghost numbers = { λ _ n. time-set-number n };
+
+    fn size() -> usize {
+        TIME_SET_SIZE
+    }
 
     fn from_bytes(_last_user: u32, bytes: &[u8]) -> Result<Entry<TimeSet>, Misfit> {
         if bytes.len() != TIME_SET_SIZE {

@@ -110,7 +110,7 @@ fn user_array(number: u32, user: &User) -> [u8; 84]
 }
 
 pub impl Record for User as UserRecord {
-    ghost size = { 84 };
+    ghost long = { 84 };
 
     ghost encoded = { user-bytes };
 
@@ -119,6 +119,10 @@ pub impl Record for User as UserRecord {
     ghost holds = { four-bytes-hold };
 
     ghost numbers = { λ last n. user-number last n && four-bytes-hold n };
+
+    fn size() -> usize {
+        USER_SIZE
+    }
 
     fn from_bytes(last_user: u32, bytes: &[u8]) -> Result<Entry<User>, Misfit> {
         if bytes.len() != USER_SIZE {

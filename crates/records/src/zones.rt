@@ -38,7 +38,7 @@ fn copy_rows(rows: &[Row], out: &mut [u8])
 }
 
 pub impl Record for Zone as ZoneRecord {
-    ghost size = { 25 };
+    ghost long = { 25 };
 
     ghost encoded = { zone-bytes };
 
@@ -47,6 +47,10 @@ pub impl Record for Zone as ZoneRecord {
     ghost holds = { one-byte };
 
     ghost numbers = { λ _ n. zone-number n };
+
+    fn size() -> usize {
+        ZONE_SIZE
+    }
 
     fn from_bytes(_last_user: u32, bytes: &[u8]) -> Result<Entry<Zone>, Misfit> {
         if bytes.len() != ZONE_SIZE {

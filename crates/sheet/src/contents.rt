@@ -9,11 +9,7 @@ use records::User;
 use records::Zone;
 use records::groups::GroupRecord;
 use records::holidays::HolidayRecord;
-use records::limits::GROUP_SIZE;
-use records::limits::HOLIDAY_SIZE;
-use records::limits::TIME_SET_SIZE;
 use records::limits::USER_SIZE;
-use records::limits::ZONE_SIZE;
 use records::time_sets::TimeSetRecord;
 use records::users::UserRecord;
 use records::zones::ZoneRecord;
@@ -35,7 +31,6 @@ fn tell_counted<R: Record>(
     rt: &LibcRuntime,
     name: &str,
     last_user: u32,
-    size: usize,
     body: &[u8],
 ) -> io::Result<()>
 where
@@ -44,6 +39,7 @@ where
     let [count, records @ ..] = body else {
         return Ok(());
     };
+    let size = R::size();
     if size == 0 || records.len() != size.saturating_mul(*count as usize) {
         return Ok(());
     }
@@ -78,10 +74,10 @@ pub fn tell_records(rt: &LibcRuntime, last_user: u32, frame: &[u8]) -> io::Resul
     let body = &frame[9..frame.len() - 2];
     match frame[8] {
         0x07 => tell_user(rt, last_user, body),
-        0x20 => tell_counted::<TimeSet>(rt, "time set", last_user, TIME_SET_SIZE, body),
-        0x24 => tell_counted::<Zone>(rt, "zone", last_user, ZONE_SIZE, body),
-        0x28 => tell_counted::<Group>(rt, "group", last_user, GROUP_SIZE, body),
-        0x2C => tell_counted::<Holiday>(rt, "holiday", last_user, HOLIDAY_SIZE, body),
+        0x20 => tell_counted::<TimeSet>(rt, "time set", last_user, body),
+        0x24 => tell_counted::<Zone>(rt, "zone", last_user, body),
+        0x28 => tell_counted::<Group>(rt, "group", last_user, body),
+        0x2C => tell_counted::<Holiday>(rt, "holiday", last_user, body),
         _ => Ok(()),
     }
 }

@@ -1,7 +1,11 @@
 // The edges of dates and times, on both sides, and weekdays that everybody can look up.
-use crate::week::WeekdayDebug;
-use crate::week::WeekdayPartialEq;
-use crate::*;
+use calendar::Date;
+use calendar::Moment;
+use calendar::MonthDay;
+use calendar::TimeOfDay;
+use calendar::Weekday;
+use calendar::week::WeekdayDebug;
+use calendar::week::WeekdayPartialEq;
 use std::test::*;
 
 #[test]

@@ -1,6 +1,9 @@
 // Where orders become ready in a stream of bytes, cut in several ways.
 ghost use Prim.Native.Nat.{_≤_};
-use crate::*;
+use line::Fed;
+use line::FrameBuffer;
+use line::Line;
+use line::frame;
 use std::alloc::AllocError;
 use std::alloc::Global;
 use std::test::*;
