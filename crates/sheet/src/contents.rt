@@ -67,7 +67,7 @@ fn tell_user(rt: &LibcRuntime, last_user: u32, body: &[u8]) -> io::Result<()> {
 }
 
 // Tells of each record in a frame of the right length whether its fields are in range.
-pub fn tell_records(rt: &LibcRuntime, last_user: u32, frame: &[u8]) -> io::Result<()> {
+pub(crate) fn tell_records(rt: &LibcRuntime, last_user: u32, frame: &[u8]) -> io::Result<()> {
     if frame.len() < 11 {
         return Ok(());
     }

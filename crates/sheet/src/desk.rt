@@ -53,7 +53,7 @@ pub struct Desk {
 }
 
 impl Desk {
-    pub fn new(heap: Global) -> Result<Desk, AllocError> {
+    pub(crate) fn new(heap: Global) -> Result<Desk, AllocError> {
         let tally = Tally {
             sent: 0,
             withdrawn: 0,
@@ -69,17 +69,17 @@ impl Desk {
         })
     }
 
-    pub fn tally(&self) -> Tally {
+    pub(crate) fn tally(&self) -> Tally {
         self.tally
     }
 
     // How many bytes wait for the rest of their frame.
-    pub fn bytes_waiting(&self) -> usize {
+    pub(crate) fn bytes_waiting(&self) -> usize {
         self.line.bytes_waiting()
     }
 
     // A setup line stands before every other entry.
-    pub fn admits(&self, entry: &Entry) -> bool {
+    pub(crate) fn admits(&self, entry: &Entry) -> bool {
         match entry {
             Entry::Setup(_) => !self.began,
             _ => true,
@@ -142,7 +142,7 @@ fn feed_all(
 }
 
 // Carries out an entry: its line in normal form, and below it a line for each order that became ready.
-pub fn carry_out(rt: &LibcRuntime, desk: Desk, entry: &Entry) -> io::Result<Desk> {
+pub(crate) fn carry_out(rt: &LibcRuntime, desk: Desk, entry: &Entry) -> io::Result<Desk> {
     let heap = rt.alloc();
     let Desk {
         mut line,

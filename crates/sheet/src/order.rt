@@ -17,7 +17,7 @@ pub struct Note {
 
 impl Note {
     // A frame shorter than a header has no command, and no line holds one.
-    pub fn of(frame: &[u8]) -> Option<Note>
+    pub(crate) fn of(frame: &[u8]) -> Option<Note>
         ensures { λ r. ⌜ found r (λ n. (n .command ≡ getD (now (frame .entry)) 8 0) × (n .length ≡ length (now (frame .entry))) × (n .«ends_right» ≡ ends-right (now (frame .entry))) × (n .«sums_right» ≡ sums-right (now (frame .entry)))) ⌝ }
     {
         Some(Note {
@@ -29,7 +29,7 @@ impl Note {
     }
 
     // Are both the last byte and the checksum right?
-    pub fn is_right(&self) -> bool {
+    pub(crate) fn is_right(&self) -> bool {
         self.ends_right && self.sums_right
     }
 }
