@@ -1,3 +1,5 @@
+pub mod Bodies
 pub mod Commands
+pub mod Questions
 pub mod Refusals
 pub mod Replies
