@@ -1,2 +1,3 @@
 pub mod Enclosing
 pub mod Naming
+pub mod Ranging

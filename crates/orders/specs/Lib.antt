@@ -1,5 +1,6 @@
 pub mod Bodies
 pub mod Commands
+pub mod Fields
 pub mod Questions
 pub mod Refusals
 pub mod Replies

@@ -1,6 +1,7 @@
 // What a frame asks and how its answer looks.
 mod body;
 pub mod command;
+mod fields;
 pub mod heading;
 pub mod opening;
 pub mod refusal;
