@@ -2,8 +2,14 @@
 ghost use mathlib.Core.Path.{_≡_};
 ghost use Prim.Native.Nat.{_*_};
 ghost use lib.ListN.{length};
-ghost use Rattle.orders.specs.Fields.{every-record};
+ghost use mathlib.Core.Bool.{true};
+ghost use Rattle.orders.specs.declared.size.BodySize.the-variants.{Counted};
+ghost use Rattle.orders.specs.Bodies.{long-right};
+ghost use Rattle.orders.specs.Fields.{every-record, counted, user-of, fields-right};
+ghost use Rattle.orders.specs.declared.command.Command.the-variants.{RegisterUser};
 use records::Record;
+use records::User;
+use records::users::UserRecord;
 
 // Is each of so many records in range?
 fn all_in_range<R: Record + Drop>(last_user: u32, count: usize, records: &[u8]) -> bool
@@ -22,4 +28,36 @@ fn all_in_range<R: Record + Drop>(last_user: u32, count: usize, records: &[u8]) 
         left -= 1;
     }
     true
+}
+
+// Is there at least one record, and is each in range?
+fn counted_right<R: Record + Drop>(last_user: u32, body: &[u8]) -> bool
+    requires { ⌜ long-right (Counted (R·Record .long)) (now body) ≡ true ⌝ }
+    ensures { λ r. ⌜ r ≡ counted (R·Record .ranges «last_user») (R·Record .long) (now (body .entry)) ⌝ }
+{
+    if body.len() == 0 {
+        return false;
+    }
+    let count = body[0];
+    count >= 1 && all_in_range::<R>(last_user, count as usize, &body[1..body.len()])
+}
+
+// Is the user in range, and OVERWRITE 0 or 1?
+fn user_right(last_user: u32, body: &[u8]) -> bool
+    requires { ⌜ length (now body) ≡ 85 ⌝ }
+    ensures { λ r. ⌜ r ≡ fields-right «last_user» RegisterUser (now (body .entry)) ⌝ }
+{
+    let user = user_bytes(body);
+    body[4] <= 1 && User::from_bytes(last_user, &user).is_ok()
+}
+
+// The user's bytes in a body that has the byte OVERWRITE behind the number.
+fn user_bytes(body: &[u8]) -> [u8; 84]
+    requires { ⌜ length (now body) ≡ 85 ⌝ }
+    ensures { λ r. ⌜ r ≡ user-of (now (body .entry)) ⌝ }
+{
+    let mut bytes = [0u8; 84];
+    bytes[0..4].copy_from_slice(&body[0..4]);
+    bytes[4..84].copy_from_slice(&body[5..85]);
+    bytes
 }
