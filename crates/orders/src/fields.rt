@@ -4,12 +4,26 @@ ghost use Prim.Native.Nat.{_*_};
 ghost use lib.ListN.{length};
 ghost use mathlib.Core.Bool.{true};
 ghost use Rattle.orders.specs.declared.size.BodySize.the-variants.{Counted};
-ghost use Rattle.orders.specs.Bodies.{long-right};
+ghost use Rattle.orders.specs.Bodies.{size-of, long-right};
 ghost use Rattle.orders.specs.Fields.{every-record, counted, user-of, fields-right};
 ghost use Rattle.orders.specs.declared.command.Command.the-variants.{RegisterUser};
+use crate::command::Command;
+use records::Group;
+use records::Holiday;
 use records::Record;
+use records::TimeSet;
 use records::User;
+use records::Zone;
+use records::groups::GroupRecord;
+use records::holidays::HolidayRecord;
+use records::limits::FIRST_GROUP;
+use records::limits::FIRST_TIME_SET;
+use records::limits::FIRST_ZONE;
+use records::limits::LAST_HOLIDAY;
+use records::limits::LAST_ZONE;
+use records::time_sets::TimeSetRecord;
 use records::users::UserRecord;
+use records::zones::ZoneRecord;
 
 // Is each of so many records in range?
 fn all_in_range<R: Record + Drop>(last_user: u32, count: usize, records: &[u8]) -> bool
@@ -60,4 +74,23 @@ fn user_bytes(body: &[u8]) -> [u8; 84]
     bytes[0..4].copy_from_slice(&body[0..4]);
     bytes[4..84].copy_from_slice(&body[5..85]);
     bytes
+}
+
+// Is every field in its range, and a count at least 1?
+pub(crate) fn fields_right(last_user: u32, command: Command, body: &[u8]) -> bool
+    requires { ⌜ long-right (size-of command) (now body) ≡ true ⌝ }
+    ensures { λ r. ⌜ r ≡ fields-right «last_user» command (now (body .entry)) ⌝ }
+{
+    match command {
+        Command::PutTimeSets => counted_right::<TimeSet>(last_user, body),
+        Command::PutZones => counted_right::<Zone>(last_user, body),
+        Command::PutGroups => counted_right::<Group>(last_user, body),
+        Command::PutHolidays => counted_right::<Holiday>(last_user, body),
+        Command::RegisterUser => user_right(last_user, body),
+        Command::DeleteTimeSet | Command::ReadTimeSet => FIRST_TIME_SET <= body[0],
+        Command::DeleteZone | Command::ReadZone => FIRST_ZONE <= body[0] && body[0] <= LAST_ZONE,
+        Command::DeleteGroup | Command::ReadGroup => FIRST_GROUP <= body[0],
+        Command::DeleteHoliday => body[0] <= LAST_HOLIDAY,
+        _ => true,
+    }
 }
