@@ -16,6 +16,7 @@ use Rattle.orders.specs.declared.refusal.Refusal.{Refusal}
 use Rattle.orders.specs.declared.refusal.Refusal.the-variants as refusal
 use Rattle.orders.specs.Bodies.{size-of, long-right}
 use Rattle.orders.specs.Commands.{command-of}
+use Rattle.orders.specs.Fields.{fields-right}
 
 -- the bytes between COMMAND and the checksum
 abbrev pub body-of : List ℕ → List ℕ
@@ -34,6 +35,15 @@ with-command (Some c) body = with-body c body
 abbrev pub opened : List ℕ → Result (Command × List ℕ) Refusal
 opened f =
     cond (leb shortest (length f) && ends-right f) (cond (sums-right f) (with-command (command-of (getD f 8 0)) (body-of f)) (Err refusal.Checksum)) (Err refusal.Length)
+
+-- is every field in its range?
+abbrev pub with-fields : ℕ → Result (Command × List ℕ) Refusal → Result (Command × List ℕ) Refusal
+with-fields last (Ok p) = cond (fields-right last (p .0) (p .1)) (Ok p) (Err refusal.Range)
+with-fields last (Err e) = Err e
+
+-- all questions to a frame alone; last is the last number of the user table
+abbrev pub asked : ℕ → List ℕ → Result (Command × List ℕ) Refusal
+asked last f = with-fields last (opened f)
 
 -- what the code hands out, with the body's bytes in place of the slice
 abbrev pub told : Result (Command × RefT (List ℕ)) Refusal → Result (Command × List ℕ) Refusal

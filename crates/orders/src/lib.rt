@@ -10,6 +10,7 @@ pub mod size;
 
 pub use command::Command;
 pub use heading::Heading;
+pub use opening::ask;
 pub use opening::open;
 pub use refusal::Refusal;
 pub use size::BodySize;
