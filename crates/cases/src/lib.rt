@@ -4,6 +4,8 @@ mod dates;
 #[cfg(test)]
 mod edges;
 #[cfg(test)]
+mod frames;
+#[cfg(test)]
 mod makes;
 #[cfg(test)]
 mod streams;
