@@ -4,10 +4,13 @@ ghost use lib.ListN.{length};
 use crate::contents::tell_records;
 use crate::order::Note;
 use crate::order::NoteDisplay;
+use crate::words::command_words;
+use crate::words::refusal_words;
 use line::Fed;
 use line::FrameBuffer;
 use line::Line;
 use line::Listening;
+use orders::ask;
 use script::Entry;
 use script::line_of;
 use std::alloc::AllocError;
@@ -93,6 +96,17 @@ fn tell_order(rt: &LibcRuntime, last_user: u32, frame: &[u8]) -> io::Result<bool
         return Ok(false);
     };
     println!(rt, "# {note}")?;
+    match ask(frame, last_user) {
+        Ok((command, _)) => {
+            let words = command_words(command);
+            println!(rt, "# it asks to {words}")?;
+        }
+        Err(refusal) => {
+            let number = refusal.number();
+            let words = refusal_words(refusal);
+            println!(rt, "# refused with {number:02X}: {words}")?;
+        }
+    }
     tell_records(rt, last_user, frame)?;
     Ok(note.is_right())
 }

@@ -2,6 +2,7 @@
 mod contents;
 mod desk;
 mod order;
+mod words;
 
 use desk::Desk;
 use desk::TallyDisplay;
