@@ -25,6 +25,11 @@ use records::time_sets::TimeSetRecord;
 use records::users::UserRecord;
 use records::zones::ZoneRecord;
 
+const FEWEST_RECORDS: u8 = 1;
+
+// The byte OVERWRITE where a user that stands may be replaced; 0 where not.
+const OVERWRITE: u8 = 1;
+
 // Is each of so many records in range?
 fn all_in_range<R: Record + Drop>(last_user: u32, count: usize, records: &[u8]) -> bool
     requires { ⌜ length (now records) ≡ R·Record .long * count ⌝ }
@@ -53,7 +58,7 @@ fn counted_right<R: Record + Drop>(last_user: u32, body: &[u8]) -> bool
         return false;
     }
     let count = body[0];
-    count >= 1 && all_in_range::<R>(last_user, count as usize, &body[1..body.len()])
+    count >= FEWEST_RECORDS && all_in_range::<R>(last_user, count as usize, &body[1..body.len()])
 }
 
 // Is the user in range, and OVERWRITE 0 or 1?
@@ -62,7 +67,7 @@ fn user_right(last_user: u32, body: &[u8]) -> bool
     ensures { λ r. ⌜ r ≡ fields-right «last_user» RegisterUser (now (body .entry)) ⌝ }
 {
     let user = user_bytes(body);
-    body[4] <= 1 && User::from_bytes(last_user, &user).is_ok()
+    body[4] <= OVERWRITE && User::from_bytes(last_user, &user).is_ok()
 }
 
 // The user's bytes in a body that has the byte OVERWRITE behind the number.
