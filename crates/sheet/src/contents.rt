@@ -1,6 +1,7 @@
 // What is told of the records that a frame puts.
 ghost use mathlib.Core.Path.{_≡_};
 ghost use lib.ListN.{length};
+use orders::Command;
 use records::Group;
 use records::Holiday;
 use records::Record;
@@ -72,12 +73,12 @@ pub(crate) fn tell_records(rt: &LibcRuntime, last_user: u32, frame: &[u8]) -> io
         return Ok(());
     }
     let body = &frame[9..frame.len() - 2];
-    match frame[8] {
-        0x07 => tell_user(rt, last_user, body),
-        0x20 => tell_counted::<TimeSet>(rt, "time set", last_user, body),
-        0x24 => tell_counted::<Zone>(rt, "zone", last_user, body),
-        0x28 => tell_counted::<Group>(rt, "group", last_user, body),
-        0x2C => tell_counted::<Holiday>(rt, "holiday", last_user, body),
+    match Command::from_byte(frame[8]) {
+        Some(Command::RegisterUser) => tell_user(rt, last_user, body),
+        Some(Command::PutTimeSets) => tell_counted::<TimeSet>(rt, "time set", last_user, body),
+        Some(Command::PutZones) => tell_counted::<Zone>(rt, "zone", last_user, body),
+        Some(Command::PutGroups) => tell_counted::<Group>(rt, "group", last_user, body),
+        Some(Command::PutHolidays) => tell_counted::<Holiday>(rt, "holiday", last_user, body),
         _ => Ok(()),
     }
 }
