@@ -1,4 +1,6 @@
 // Which event a card gets at a door and a minute, told from the records that stand in five tables.
+#![tactic(auto)]
+
 pub mod answer;
 pub mod cards;
 pub mod covers;

@@ -1,4 +1,6 @@
 // Dates and times of the years 2000 to 2099. What is held is always real: each type's invariant says so.
+#![tactic(auto)]
+
 pub mod date;
 mod days;
 pub mod minute;

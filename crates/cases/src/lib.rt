@@ -1,4 +1,6 @@
 // Examples of the rules, run: the edges of every range on both sides, streams of bytes, dates, texts, cards at doors and the log.
+#![tactic(auto)]
+
 #[cfg(test)]
 mod cards;
 #[cfg(test)]

@@ -1,4 +1,6 @@
 // What can happen at a door: which door, which way, and what the controller said.
+#![tactic(auto)]
+
 pub mod direction;
 pub mod door;
 pub mod event;

@@ -1,4 +1,6 @@
 // What a frame asks and how its answer looks.
+#![tactic(auto)]
+
 mod body;
 pub mod command;
 mod fields;

@@ -1,4 +1,6 @@
 // The five kinds of record, to and from their bytes. A record is its number and its body.
+#![tactic(auto)]
+
 pub mod card;
 mod codec;
 pub mod group;

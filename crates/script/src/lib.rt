@@ -7,6 +7,8 @@
 //
 // Bytes are in hexadecimal, with spaces between them or none, MU and DOOR in decimal. Words stand one or more spaces
 // apart. An empty line and one that begins with `#` hold no entry.
+#![tactic(auto)]
+
 mod entries;
 mod fields;
 mod hex;

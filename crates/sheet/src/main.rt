@@ -1,4 +1,6 @@
 // Replays one controller's sheet: what was sent to it, read from standard input, and what became of it.
+#![tactic(auto)]
+
 mod contents;
 mod desk;
 mod order;

@@ -1,4 +1,6 @@
 // Tables of numbered records. A table means a map from numbers to records, and two makes keep that meaning.
+#![tactic(auto)]
+
 pub mod edit;
 pub mod entry;
 pub mod ordered;

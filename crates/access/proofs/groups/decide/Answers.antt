@@ -21,7 +21,7 @@ groups-preserved-in-default g c =
     let i = c.groups.number-index in
     let e = c.groups.event in
     let n = get_or ns i 0 in
-    let none = group_none s door x n c.if-number-eq-EVERY-DOOR.false c.in-default.ensures in
+    let none = group_none s door x n c.if-number-eq-EVERY_DOOR.false c.in-default.ensures in
     sym (decided_shut (group_opens s door) (group_admits s door x) ns i c.groups-test.true e none) ∙ c.groups.invariant
 
 pub groups-preserved-then-not-opens : goal.groups-preserved-then-not-opens
@@ -33,7 +33,7 @@ groups-preserved-then-not-opens g c =
     let i = c.groups.number-index in
     let e = c.groups.event in
     let n = get_or ns i 0 in
-    let shut = group_shut s door x n c.if-number-eq-EVERY-DOOR.false c.in-Some.group.now c.in-Some.ensures (sym c.opens.ensures ∙ c.if-not-opens.true) in
+    let shut = group_shut s door x n c.if-number-eq-EVERY_DOOR.false c.in-Some.group.now c.in-Some.ensures (sym c.opens.ensures ∙ c.if-not-opens.true) in
     sym (decided_shut (group_opens s door) (group_admits s door x) ns i c.groups-test.true e shut) ∙ c.groups.invariant
 
 pub groups-preserved-in-default-look-up : goal.groups-preserved-in-default-look-up
@@ -47,8 +47,8 @@ groups-preserved-in-default-look-up g c =
     let n = get_or ns i 0 in
     let z = c.zone-for-named.result in
     let opening = sym c.opens.ensures ∙ c.if-not-opens.false in
-    let opened = group_open s door x n c.if-number-eq-EVERY-DOOR.false c.in-Some.group.now c.in-Some.ensures opening in
-    let by-zone = group_zone s door x n c.if-number-eq-EVERY-DOOR.false c.in-Some.group.now c.in-Some.ensures opening z c.zone-for-named.ensures in
+    let opened = group_open s door x n c.if-number-eq-EVERY_DOOR.false c.in-Some.group.now c.in-Some.ensures opening in
+    let by-zone = group_zone s door x n c.if-number-eq-EVERY_DOOR.false c.in-Some.group.now c.in-Some.ensures opening z c.zone-for-named.ensures in
     let none = by-zone ∙ zone_none s x z c.if-named-eq-ALWAYS.false c.in-default-look-up.ensures in
     sym (decided_open (group_opens s door) (group_admits s door x) ns i c.groups-test.true e none opened) ∙ c.groups.invariant
 
@@ -73,11 +73,11 @@ groups-preserved g c =
     let j = c.loop-set.set-index in
     let z = c.zone-for-named.result in
     let opening = sym c.opens.ensures ∙ c.if-not-opens.false in
-    let by-zone = group_zone s door x n c.if-number-eq-EVERY-DOOR.false c.in-Some.group.now c.in-Some.ensures opening z c.zone-for-named.ensures in
+    let by-zone = group_zone s door x n c.if-number-eq-EVERY_DOOR.false c.in-Some.group.now c.in-Some.ensures opening z c.zone-for-named.ensures in
     let day-is = c.row-of-day.ensures ∙ ap (row_of s) c.date.ensures in
     let by-sets = by-zone ∙ zone_row s x z c.in-Some-look-up.zone.now c.row-of-day.result sets c.if-named-eq-ALWAYS.false c.in-Some-look-up.ensures day-is c.row-sets-set-items.ensures in
     let none = by-sets ∙ sym c.loop-set.invariant.1 ∙ at_drop_all (some_of (set_covers s x)) sets j c.loop-set-test.false in
-    let opened = group_open s door x n c.if-number-eq-EVERY-DOOR.false c.in-Some.group.now c.in-Some.ensures opening in
+    let opened = group_open s door x n c.if-number-eq-EVERY_DOOR.false c.in-Some.group.now c.in-Some.ensures opening in
     ap (λ v. decided (group_opens s door) (group_admits s door x) v (drop (i + 1) ns)) c.loop-set.invariant.0
     ∙ sym (decided_open (group_opens s door) (group_admits s door x) ns i c.groups-test.true e none opened) ∙ c.groups.invariant
 
@@ -91,8 +91,8 @@ returns-after-groups g c =
     let e = c.groups.event in
     ended s door x ns i e c.groups-test.false c.groups.invariant
 
-pub returns-then-number-eq-EVERY-DOOR : goal.returns-then-number-eq-EVERY-DOOR
-returns-then-number-eq-EVERY-DOOR g c =
+pub returns-then-number-eq-EVERY_DOOR : goal.returns-then-number-eq-EVERY_DOOR
+returns-then-number-eq-EVERY_DOOR g c =
     let s = held g c.args.tables.now in
     let door = c.args.door.number in
     let x = c.args.minute.now in
@@ -100,7 +100,7 @@ returns-then-number-eq-EVERY-DOOR g c =
     let i = c.groups.number-index in
     let e = c.groups.event in
     let n = get_or ns i 0 in
-    admitted s door x ns i e c.groups-test.true c.groups.invariant (meant_always s.groups _ n c.if-number-eq-EVERY-DOOR.true)
+    admitted s door x ns i e c.groups-test.true c.groups.invariant (meant_always s.groups _ n c.if-number-eq-EVERY_DOOR.true)
 
 pub returns-then-named-eq-ALWAYS : goal.returns-then-named-eq-ALWAYS
 returns-then-named-eq-ALWAYS g c =
@@ -113,7 +113,7 @@ returns-then-named-eq-ALWAYS g c =
     let n = get_or ns i 0 in
     let z = c.zone-for-named.result in
     let opening = sym c.opens.ensures ∙ c.if-not-opens.false in
-    let by-zone = group_zone s door x n c.if-number-eq-EVERY-DOOR.false c.in-Some.group.now c.in-Some.ensures opening z c.zone-for-named.ensures in
+    let by-zone = group_zone s door x n c.if-number-eq-EVERY_DOOR.false c.in-Some.group.now c.in-Some.ensures opening z c.zone-for-named.ensures in
     admitted s door x ns i e c.groups-test.true c.groups.invariant (by-zone ∙ meant_always s.zones _ z c.if-named-eq-ALWAYS.true)
 
 pub returns-then-set-covers : goal.returns-then-set-covers
@@ -129,7 +129,7 @@ returns-then-set-covers g c =
     let j = c.loop-set.set-index in
     let z = c.zone-for-named.result in
     let opening = sym c.opens.ensures ∙ c.if-not-opens.false in
-    let by-zone = group_zone s door x n c.if-number-eq-EVERY-DOOR.false c.in-Some.group.now c.in-Some.ensures opening z c.zone-for-named.ensures in
+    let by-zone = group_zone s door x n c.if-number-eq-EVERY_DOOR.false c.in-Some.group.now c.in-Some.ensures opening z c.zone-for-named.ensures in
     let day-is = c.row-of-day.ensures ∙ ap (row_of s) c.date.ensures in
     let by-sets = by-zone ∙ zone_row s x z c.in-Some-look-up.zone.now c.row-of-day.result sets c.if-named-eq-ALWAYS.false c.in-Some-look-up.ensures day-is c.row-sets-set-items.ensures in
     let covered = some_of_here (set_covers s x) sets j c.loop-set-test.true (sym c.set-covers.ensures ∙ c.if-set-covers.true) in

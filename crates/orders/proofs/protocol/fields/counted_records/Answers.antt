@@ -5,8 +5,8 @@ use Rattle.orders.specs.Readings.{EntriesRead}
 use Rattle.orders.proofs.Counting.{counted_few, counted_wrong, counted_done}
 use Rattle.orders.proofs.protocol.fields.counted_records.Goals as goal
 
-pub returns-then-count-lt-FEWEST-RECORDS : goal.returns-then-count-lt-FEWEST-RECORDS
-returns-then-count-lt-FEWEST-RECORDS g c = (refl, counted_few (g.R.Record.ranges c.args.last_user) g.R.Record.long c.args.body.now (omega arith))
+pub returns-then-count-lt-FEWEST_RECORDS : goal.returns-then-count-lt-FEWEST_RECORDS
+returns-then-count-lt-FEWEST_RECORDS g c = (refl, counted_few (g.R.Record.ranges c.args.last_user) g.R.Record.long c.args.body.now (omega arith))
 
 pub returns-then-not-all-in-range : goal.returns-then-not-all-in-range
 returns-then-not-all-in-range g c = (refl, counted_wrong (g.R.Record.ranges c.args.last_user) g.R.Record.long c.args.body.now (ap (every_record (g.R.Record.ranges c.args.last_user) g.R.Record.long (get_or c.args.body.now 0 0)) (sym (take_rest c.args.body.now 1)) ∙ sym c.all-in-range.ensures.value ∙ c.if-not-all-in-range.true))

@@ -8,8 +8,8 @@ use Rattle.records.proofs.user.User.with_number.Goals as goal
 pub returns-then-not-is-user : goal.returns-then-not-is-user
 returns-then-not-is-user c = record { read = (omega arith, and_left _ _ (ap (user_number c.args.last_user) (number_back c.args.number (omega arith)) ∙ sym c.is-user.ensures ∙ c.if-not-is-user.true)); number = tt }
 
-pub returns-then-rest-gt-LAST-TYPE : goal.returns-then-rest-gt-LAST-TYPE
-returns-then-rest-gt-LAST-TYPE c = record { read = (omega arith, kind_wrong c.args.last_user (four c.args.number ++ c.args.rest.now) c.if-rest-gt-LAST-TYPE.true); number = tt }
+pub returns-then-rest-gt-LAST_TYPE : goal.returns-then-rest-gt-LAST_TYPE
+returns-then-rest-gt-LAST_TYPE c = record { read = (omega arith, kind_wrong c.args.last_user (four c.args.number ++ c.args.rest.now) c.if-rest-gt-LAST_TYPE.true); number = tt }
 
 pub returns-in-err-window : goal.returns-in-err-window
 returns-in-err-window c =

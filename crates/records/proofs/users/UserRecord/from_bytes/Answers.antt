@@ -8,8 +8,8 @@ use Rattle.records.proofs.users.UserRecord.from_bytes.Goals as goal
 pub returns-then-not-is-user : goal.returns-then-not-is-user
 returns-then-not-is-user c = (omega arith, and_left _ _ (ap (user_number c.args.last_user) (sym c.number-of-number.ensures) ∙ sym c.is-user.ensures ∙ c.if-not-is-user.true))
 
-pub returns-then-bytes-gt-LAST-TYPE : goal.returns-then-bytes-gt-LAST-TYPE
-returns-then-bytes-gt-LAST-TYPE c = (omega arith, kind_wrong c.args.last_user c.args.bytes.now c.if-bytes-gt-LAST-TYPE.true)
+pub returns-then-bytes-gt-LAST_TYPE : goal.returns-then-bytes-gt-LAST_TYPE
+returns-then-bytes-gt-LAST_TYPE c = (omega arith, kind_wrong c.args.last_user c.args.bytes.now c.if-bytes-gt-LAST_TYPE.true)
 
 pub returns : goal.returns
 returns c =
