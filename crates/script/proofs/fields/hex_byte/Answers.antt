@@ -4,4 +4,4 @@ use Rattle.script.proofs.fields.hex_byte.Goals as goal
 
 pub returns : goal.returns
 returns c =
-    at_byte c.args.text.now c.in-ok-high.high c.in-ok-low.low (search rules) (sym c.in-ok-high.ensures.value) (sym c.in-ok-low.ensures.value)
+    at_byte c.args.text.now c.in_ok-high.high c.in_ok-low.low (search rules) (sym c.in_ok-high.ensures.value) (sym c.in_ok-low.ensures.value)

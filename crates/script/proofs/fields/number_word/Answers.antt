@@ -5,31 +5,31 @@ use Rattle.script.proofs.fields.number_word.Goals as goal
 
 pub returns-in-32 : goal.returns-in-32
 returns-in-32 c =
-    let s = number_space c.args.limit c.loop-i.n c.skip-spaces-digits.result.now c.loop-i.i (omega arith) c.in-32.is in
-    let r = number_read c.args.limit c.args.text.now c.skip-spaces-digits.result.now c.skip-spaces-digits.ensures (search rules) in
+    let s = number_space c.args.limit c.loop-i.n c.skip_spaces-digits.result.now c.loop-i.i (omega arith) c.in-32.is in
+    let r = number_read c.args.limit c.args.text.now c.skip_spaces-digits.result.now c.skip_spaces-digits.ensures (search rules) in
     record { value = sym s ∙ c.loop-i.invariant.0 ∙ r; bound = c.loop-i.invariant.1 }
 
 pub returns-in-err-n : goal.returns-in-err-n
 returns-in-err-n c =
-    let s = number_large c.args.limit c.loop-i.n c.skip-spaces-digits.result.now c.loop-i.i (omega arith) (search rules) (search rules) in
-    let r = number_read c.args.limit c.args.text.now c.skip-spaces-digits.result.now c.skip-spaces-digits.ensures (search rules) in
-    rw c.from-residual.ensures (record { value = sym s ∙ c.loop-i.invariant.0 ∙ r; bound = tt })
+    let s = number_large c.args.limit c.loop-i.n c.skip_spaces-digits.result.now c.loop-i.i (omega arith) (search rules) (search rules) in
+    let r = number_read c.args.limit c.args.text.now c.skip_spaces-digits.result.now c.skip_spaces-digits.ensures (search rules) in
+    rw c.from_residual.ensures (record { value = sym s ∙ c.loop-i.invariant.0 ∙ r; bound = tt })
 
-pub returns-in-default : goal.returns-in-default
-returns-in-default c =
-    let s = number_other c.args.limit c.loop-i.n c.skip-spaces-digits.result.now c.loop-i.i (omega arith) (search rules) (search rules) in
-    let r = number_read c.args.limit c.args.text.now c.skip-spaces-digits.result.now c.skip-spaces-digits.ensures (search rules) in
+pub returns-in_default : goal.returns-in_default
+returns-in_default c =
+    let s = number_other c.args.limit c.loop-i.n c.skip_spaces-digits.result.now c.loop-i.i (omega arith) (search rules) (search rules) in
+    let r = number_read c.args.limit c.args.text.now c.skip_spaces-digits.result.now c.skip_spaces-digits.ensures (search rules) in
     record { value = sym s ∙ c.loop-i.invariant.0 ∙ r; bound = tt }
 
 pub loop-i-preserved : goal.loop-i-preserved
 loop-i-preserved c =
-    let s = number_digit c.args.limit c.loop-i.n c.skip-spaces-digits.result.now c.loop-i.i (omega arith) (search rules) in
-    let k = kept_number _ c.args.limit c.in-ok-n.n c.in-ok-n.ensures in
-    let same = ap (λ m. number_from c.args.limit m (drop (c.loop-i.i + 1) c.skip-spaces-digits.result.now)) k.1 in
+    let s = number_digit c.args.limit c.loop-i.n c.skip_spaces-digits.result.now c.loop-i.i (omega arith) (search rules) in
+    let k = kept_number _ c.args.limit c.in_ok-n.n c.in_ok-n.ensures in
+    let same = ap (λ m. number_from c.args.limit m (drop (c.loop-i.i + 1) c.skip_spaces-digits.result.now)) k.1 in
     (same ∙ sym (s k.0) ∙ c.loop-i.invariant.0, omega arith)
 
 pub returns : goal.returns
 returns c =
-    let s = number_end c.args.limit c.loop-i.n c.skip-spaces-digits.result.now c.loop-i.i (omega arith) in
-    let r = number_read c.args.limit c.args.text.now c.skip-spaces-digits.result.now c.skip-spaces-digits.ensures (search rules) in
+    let s = number_end c.args.limit c.loop-i.n c.skip_spaces-digits.result.now c.loop-i.i (omega arith) in
+    let r = number_read c.args.limit c.args.text.now c.skip_spaces-digits.result.now c.skip_spaces-digits.ensures (search rules) in
     record { value = sym s ∙ c.loop-i.invariant.0 ∙ r; bound = c.loop-i.invariant.1 }

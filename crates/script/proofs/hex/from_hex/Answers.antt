@@ -31,7 +31,7 @@ loop-c-preserved c =
       | in-None-Some w ↦ grind (arith, nat_tests)
       | in-None-None w ↦ grind (arith, nat_tests)
       | in-Some-Some+in-ok-push w ↦
-          let p = w.in-ok-push.ensures.items in
+          let p = w.in_ok-push.ensures.items in
           let o = after_onto (vec_items c.loop-c.bytes) (16 * w.in-Some-Some.high + w.in-Some-Some.d) (hex_from None (drop (c.loop-c.c-index + 1) c.args.text.now)) in
           grind (arith, nat_tests)
     ]

@@ -7,8 +7,8 @@ use Rattle.script.proofs.hex.push_hex.Goals as goal
 pub loop-b-preserved : goal.loop-b-preserved
 loop-b-preserved c =
     let s = at_drop_more hex_text c.args.bytes.now c.loop-b.b-index 0 (omega arith) in
-    let p = c.in-ok-push.ensures.bytes in
-    let q = c.in-ok-push-2.ensures.bytes in
+    let p = c.in_ok-push.ensures.bytes in
+    let q = c.in_ok-push-2.ensures.bytes in
     let a = figure_ascii (get_or c.args.bytes.now c.loop-b.b-index 0 / 16) (omega arith) in
     let b = figure_ascii (get_or c.args.bytes.now c.loop-b.b-index 0 % 16) (omega arith) in
     search (rules, append_assoc)

@@ -4,6 +4,6 @@ use Rattle.script.proofs.printing.setup_line.Goals as goal
 
 pub returns : goal.returns
 returns c =
-    let tid = c.in-ok-tid.ensures in
-    let mac = c.in-ok-mac.ensures.value in
+    let tid = c.in_ok-tid.ensures in
+    let mac = c.in_ok-mac.ensures.value in
     IfOk-weaker c.format.result _ _ (λ t h. h ∙ rw (tid, mac)) c.format.ensures.ok

@@ -8,11 +8,11 @@ pub returns : goal.returns
 returns g c =
     let v = c.args.records.now in
     let ys = c.sink.new.records in
-    let room = sym c.has-room.ensures ∙ c.if-not-has-room.false in
+    let room = sym c.has_room.ensures ∙ c.if-not-has_room.false in
     let within : c.args.at ≤ vec_len v = leb-true _ _ (and_parts _ _ room).0 in
-    let sunk = rw (c.deref-mut.ensures.value, c.push-reserved.ensures.items) at c.sink.ensures in
+    let sunk = rw (c.deref_mut.ensures.value, c.push_reserved.ensures.items) at c.sink.ensures in
     record {
       answer = sym (cond-true _ _ _ room);
-      items = with_items_is c.push-reserved.new.self ys (omega arith) ∙ (inserted_from_sunk (vec_items v) ys c.args.item c.args.at (omega arith) (omega arith) sunk ∙ sym (cond-true _ _ _ room));
-      capacity = c.push-reserved.ensures.capacity;
+      items = with_items_is c.push_reserved.new.self ys (omega arith) ∙ (inserted_from_sunk (vec_items v) ys c.args.item c.args.at (omega arith) (omega arith) sunk ∙ sym (cond-true _ _ _ room));
+      capacity = c.push_reserved.ensures.capacity;
     }

@@ -3,7 +3,7 @@ use Rattle.tables.specs.Moves.{sunk_none, sunk_more, sunk_all}
 use Rattle.tables.proofs.ordered.sink.Goals as goal
 
 pub loop-at-init : goal.loop-at-init
-loop-at-init g c = (omega arith, λ h. omega arith, sunk_none c.args.records.now c.saturating-sub-at.result (omega arith))
+loop-at-init g c = (omega arith, λ h. omega arith, sunk_none c.args.records.now c.saturating_sub-at.result (omega arith))
 
 pub loop-at-preserved : goal.loop-at-preserved
 loop-at-preserved g c =

@@ -8,8 +8,8 @@ loop-edit-preserved g c =
     let was = c.args.table.now in
     let before = c.loop-edit.table in
     let inv = c.loop-edit.invariant in
-    let one = c.apply-one.ensures in (
-      replay_step (t.low was) (t.high was) (t.low before) (t.high before) (t.at was) (t.at before) (t.at c.apply-one.new.table) c.args.edits.now c.loop-edit.edit-index c.edit-item.result c.loop-edit-test.true c.edit-item.is inv.1 inv.2 inv.0 one.map,
+    let one = c.apply_one.ensures in (
+      replay_step (t.low was) (t.high was) (t.low before) (t.high before) (t.at was) (t.at before) (t.at c.apply_one.new.table) c.args.edits.now c.loop-edit.edit-index c.edit-item.result c.loop-edit-test.true c.edit-item.is inv.1 inv.2 inv.0 one.map,
       one.low ∙ inv.1,
       one.high ∙ inv.2,
     )

@@ -6,8 +6,8 @@ use Rattle.tables.proofs.uses.walked.Goals as goal
 pub loop-number-init : goal.loop-number-init
 loop-number-init g c = (sym (many_zero (g.T.Table.at c.args.table.now)), omega arith)
 
-pub overflow-add-met : goal.overflow-add-met
-overflow-add-met g c =
+pub overflow_add-met : goal.overflow_add-met
+overflow_add-met g c =
     let t = c.args.table.now in
     omega (arith, many_le (g.T.Table.at t) (start c.loop-number.reached), g.met.T.Table.bounded t)
 
@@ -28,5 +28,5 @@ loop-number-smaller g c =
 pub returns : goal.returns
 returns g c =
     let t = c.args.table.now in
-    let none = c.in-default.ensures in
+    let none = c.in_default.ensures in
     omega (arith, many_none (g.T.Table.at t) (start c.loop-number.reached) (suc (g.T.Table.high t)) c.loop-number.invariant.1 (λ m from _. none m from))

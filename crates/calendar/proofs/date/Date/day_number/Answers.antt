@@ -3,11 +3,11 @@ use Rattle.calendar.specs.Days.{day_count}
 use Rattle.calendar.proofs.Following.{real_parts, month_bounds}
 use Rattle.calendar.proofs.date.Date.day_number.Goals as goal
 
-pub overflow-add-result : goal.overflow-add-result
-overflow-add-result c = omega arith
+pub overflow_add-result : goal.overflow_add-result
+overflow_add-result c = omega arith
 
-pub overflow-add-result-2 : goal.overflow-add-result-2
-overflow-add-result-2 c = omega arith
+pub overflow_add-result-2 : goal.overflow_add-result-2
+overflow_add-result-2 c = omega arith
 
 pub returns : goal.returns
 unfolding day_count

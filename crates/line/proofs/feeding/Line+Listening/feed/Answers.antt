@@ -22,7 +22,7 @@ returns-then-whole c =
     let self = c.args.self in
     let p = c.listen-progress.result in
     let bytes = c.listen-progress.new.buffer in
-    let rule = handed_out self.tid _ _ c.args.piece.now bytes _ p.taken p.have p.whole holding c.listen-progress.ensures.rule (ap (take self.state.have) c.deref-mut.ensures.value) (with_items_is self.buffer.bytes bytes (search rules)) (ap (λ w. cond w holding listening) c.if-whole.true) in
+    let rule = handed_out self.tid _ _ c.args.piece.now bytes _ p.taken p.have p.whole holding c.listen-progress.ensures.rule (ap (take self.state.have) c.deref_mut.ensures.value) (with_items_is self.buffer.bytes bytes (search rules)) (ap (λ w. cond w holding listening) c.if-whole.true) in
     record { rule = rule; tid = search rules; taken = ready-taken self.tid _ c.args.piece.now _ _ (sym rule); laws = line_laws self.tid }
 
 pub returns-else-whole : goal.returns-else-whole
@@ -30,5 +30,5 @@ returns-else-whole c =
     let self = c.args.self in
     let p = c.listen-progress.result in
     let bytes = c.listen-progress.new.buffer in
-    let rule = handed_out self.tid _ _ c.args.piece.now bytes _ p.taken p.have p.whole listening c.listen-progress.ensures.rule (ap (take self.state.have) c.deref-mut.ensures.value) (with_items_is self.buffer.bytes bytes (search rules)) (ap (λ w. cond w holding listening) c.if-whole.false) in
+    let rule = handed_out self.tid _ _ c.args.piece.now bytes _ p.taken p.have p.whole listening c.listen-progress.ensures.rule (ap (take self.state.have) c.deref_mut.ensures.value) (with_items_is self.buffer.bytes bytes (search rules)) (ap (λ w. cond w holding listening) c.if-whole.false) in
     record { rule = rule; tid = search rules; taken = all-taken self.tid _ c.args.piece.now _ _ (sym rule); laws = line_laws self.tid }

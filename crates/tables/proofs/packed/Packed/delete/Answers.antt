@@ -4,8 +4,8 @@ use Rattle.std.proofs.lemmas.Bool.{lt-ltb}
 use Rattle.tables.specs.Packings.{chosen, ascends_removed, within_removed}
 use Rattle.tables.proofs.packed.Packed.delete.Goals as goal
 
-pub invariant-of-self : goal.invariant-of-self
-invariant-of-self g c =
+pub invariant_of-self : goal.invariant_of-self
+invariant_of-self g c =
     let self = c.args.self.now in
     let xs = vec_items self.records in
     let items : vec_items c.remove.new.records ≡ remove xs c.args.at = chosen _ (remove xs c.args.at) xs (vec_items c.remove.new.records) c.remove.ensures.items (lt-ltb c.args.at (vec_len self.records) c.requires) in (

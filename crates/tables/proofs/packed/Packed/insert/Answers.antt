@@ -4,8 +4,8 @@ use Rattle.std.proofs.lemmas.Bool.{and_from, le-leb, lt-ltb}
 use Rattle.tables.specs.Packings.{chosen, ascends_inserted, within_inserted, room_left}
 use Rattle.tables.proofs.packed.Packed.insert.Goals as goal
 
-pub invariant-of-self : goal.invariant-of-self
-invariant-of-self g c =
+pub invariant_of-self : goal.invariant_of-self
+invariant_of-self g c =
     let self = c.args.self.now in
     let xs = vec_items self.records in
     let left = room_left self.low self.high xs self.ascends self.within c.args.at c.args.item c.requires.place c.requires.inside in

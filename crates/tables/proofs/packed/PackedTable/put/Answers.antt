@@ -6,7 +6,7 @@ use Rattle.tables.proofs.packed.PackedTable.put.Goals as goal
 pub returns-in-Ok : goal.returns-in-Ok
 returns-in-Ok g c =
     let self = c.args.self.now in
-    let within = sym c.in_range.ensures ∙ c.if-not-in-range.false in
+    let within = sym c.in_range.ensures ∙ c.if-not-in_range.false in
     let replaced = c.replace.ensures in
     record {
       answer = sym (cond-true _ _ _ within);
@@ -18,7 +18,7 @@ returns-in-Ok g c =
 pub returns-in-Err : goal.returns-in-Err
 returns-in-Err g c =
     let self = c.args.self.now in
-    let within = sym c.in_range.ensures ∙ c.if-not-in-range.false in
+    let within = sym c.in_range.ensures ∙ c.if-not-in_range.false in
     let added = c.insert.ensures in
     record {
       answer = sym (cond-true _ _ _ within);

@@ -6,19 +6,19 @@ use Rattle.tables.specs.Counts.{many_le, one_le}
 use Rattle.tables.specs.Slotted.{many_has, many_set, named_set}
 use Rattle.tables.proofs.slots.Slots.store.Goals as goal
 
-pub overflow-sub-self : goal.overflow-sub-self
-overflow-sub-self g c =
+pub overflow_sub-self : goal.overflow_sub-self
+overflow_sub-self g c =
     let self = c.args.self.now in
     let xs = vec_items self.places in
     let less : c.args.at < length xs = omega arith in
     let gone = ap one (get_or_read xs c.args.at _ less c.index.ensures None) in
     omega (arith, many_has self.low xs c.args.at (suc self.high) less (omega arith))
 
-pub overflow-add-self : goal.overflow-add-self
-overflow-add-self g c = let self = c.args.self.now in omega (arith, many_le (slot self.low (vec_items self.places)) (suc self.high), one_le c.args.place)
+pub overflow_add-self : goal.overflow_add-self
+overflow_add-self g c = let self = c.args.self.now in omega (arith, many_le (slot self.low (vec_items self.places)) (suc self.high), one_le c.args.place)
 
-pub invariant-of-self : goal.invariant-of-self
-invariant-of-self g c =
+pub invariant_of-self : goal.invariant_of-self
+invariant_of-self g c =
     let self = c.args.self.now in
     let xs = vec_items self.places in
     let less : c.args.at < length xs = omega arith in

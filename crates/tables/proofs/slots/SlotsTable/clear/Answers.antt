@@ -3,13 +3,13 @@ use Rattle.tables.specs.Slotted.{slot_none, named_none, none_refilled}
 use Rattle.tables.specs.Counts.{many_empty}
 use Rattle.tables.proofs.slots.SlotsTable.clear.Goals as goal
 
-pub invariant-of-self : goal.invariant-of-self
-invariant-of-self g c =
+pub invariant_of-self : goal.invariant_of-self
+invariant_of-self g c =
     let self = c.args.self.now in
-    let none = none_refilled self.places c.empty-all.new.places (omega arith) c.empty-all.ensures in
+    let none = none_refilled self.places c.empty_all.new.places (omega arith) c.empty_all.ensures in
     (self.fits, (self.sized, (named_none self.low _ none, (sym (many_empty _ (suc self.high) (slot_none self.low _ none)), tt))))
 
 pub returns : goal.returns
 returns g c =
     let self = c.args.self.now in
-    record { map = slot_none self.low _ (none_refilled self.places c.empty-all.new.places (omega arith) c.empty-all.ensures); low = refl {a = self.low}; high = refl {a = self.high} }
+    record { map = slot_none self.low _ (none_refilled self.places c.empty_all.new.places (omega arith) c.empty_all.ensures); low = refl {a = self.low}; high = refl {a = self.high} }
