@@ -9,8 +9,8 @@ returns-in-32 c =
     let r = number_read c.args.limit c.args.text.now c.skip_spaces-digits.result.now c.skip_spaces-digits.ensures (search rules) in
     record { value = sym s ∙ c.loop-i.invariant.0 ∙ r; bound = c.loop-i.invariant.1 }
 
-pub returns-in-err-n : goal.returns-in-err-n
-returns-in-err-n c =
+pub returns-in_err-n-in-48-to-57 : goal.returns-in_err-n-in-48-to-57
+returns-in_err-n-in-48-to-57 c =
     let s = number_large c.args.limit c.loop-i.n c.skip_spaces-digits.result.now c.loop-i.i (omega arith) (search rules) (search rules) in
     let r = number_read c.args.limit c.args.text.now c.skip_spaces-digits.result.now c.skip_spaces-digits.ensures (search rules) in
     rw c.from_residual.ensures (record { value = sym s ∙ c.loop-i.invariant.0 ∙ r; bound = tt })
@@ -24,7 +24,7 @@ returns-in_default c =
 pub loop-i-preserved : goal.loop-i-preserved
 loop-i-preserved c =
     let s = number_digit c.args.limit c.loop-i.n c.skip_spaces-digits.result.now c.loop-i.i (omega arith) (search rules) in
-    let k = kept_number _ c.args.limit c.in_ok-n.n c.in_ok-n.ensures in
+    let k = kept_number _ c.args.limit c.in_ok-n-in-48-to-57.n c.in_ok-n-in-48-to-57.ensures in
     let same = ap (λ m. number_from c.args.limit m (drop (c.loop-i.i + 1) c.skip_spaces-digits.result.now)) k.1 in
     (same ∙ sym (s k.0) ∙ c.loop-i.invariant.0, omega arith)
 

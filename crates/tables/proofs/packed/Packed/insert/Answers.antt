@@ -10,16 +10,13 @@ invariant_of-self g c =
     let xs = vec_items self.records in
     let left = room_left self.low self.high xs self.ascends self.within c.args.at c.args.item c.requires.place c.requires.inside in
     let room = and_from _ _ (le-leb c.args.at (vec_len self.records) (omega (arith, c.requires.place.0))) (lt-ltb (vec_len self.records) (vec_capacity self.records) (omega arith)) in
-    let items : vec_items c.insert.new.records ≡ insert xs c.args.at c.args.item = chosen _ (insert xs c.args.at c.args.item) xs (vec_items c.insert.new.records) c.insert.ensures.items room in (
-      self.fits,
-      (
-        rw items (ascends_inserted self.low self.high xs self.ascends self.within c.args.at c.args.item c.requires.place),
-        (
-          rw items (within_inserted self.low self.high xs self.ascends self.within c.args.at c.args.item c.requires.place c.requires.inside),
-          (omega arith, tt),
-        ),
-      ),
-    )
+    let items : vec_items c.insert.new.records ≡ insert xs c.args.at c.args.item = chosen _ (insert xs c.args.at c.args.item) xs (vec_items c.insert.new.records) c.insert.ensures.items room in
+    record {
+      fits = self.fits;
+      ascends = rw items (ascends_inserted self.low self.high xs self.ascends self.within c.args.at c.args.item c.requires.place);
+      within = rw items (within_inserted self.low self.high xs self.ascends self.within c.args.at c.args.item c.requires.place c.requires.inside);
+      room = omega arith;
+    }
 
 pub returns : goal.returns
 returns g c =

@@ -25,4 +25,4 @@ invariant_of-self g c =
     let gone = ap one (get_or_read xs c.args.at _ less c.index.ensures None) in
     let set = many_set self.low xs c.args.at c.args.place (suc self.high) less (omega arith) in
     let has = many_has self.low xs c.args.at (suc self.high) less (omega arith) in
-    (self.fits, (self.sized, (named_set self.low xs c.args.at c.args.place less self.each c.requires.number, (omega arith, tt))))
+    record { fits = self.fits; sized = self.sized; each = named_set self.low xs c.args.at c.args.place less self.each c.requires.number; counted = omega arith }

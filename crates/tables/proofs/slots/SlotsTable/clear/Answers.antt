@@ -7,7 +7,7 @@ pub invariant_of-self : goal.invariant_of-self
 invariant_of-self g c =
     let self = c.args.self.now in
     let none = none_refilled self.places c.empty_all.new.places (omega arith) c.empty_all.ensures in
-    (self.fits, (self.sized, (named_none self.low _ none, (sym (many_empty _ (suc self.high) (slot_none self.low _ none)), tt))))
+    record { fits = self.fits; sized = self.sized; each = named_none self.low _ none; counted = sym (many_empty _ (suc self.high) (slot_none self.low _ none)) }
 
 pub returns : goal.returns
 returns g c =
