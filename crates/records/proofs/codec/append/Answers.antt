@@ -6,8 +6,8 @@ pub returns : goal.returns
 returns c =
     let at = c.args.at in
     let bytes = c.args.bytes.now in
-    let same = c.copy-from-slice.ensures.after in
+    let same = c.copy_from_slice.ensures.after in
     record {
       end = refl;
-      front = take-put_mid at _ bytes c.copy-from-slice.new.self (at + length c.args.part.now) (ap (λ l. at + length l) (sym same)) (omega arith) ∙ ap (λ l. take at bytes ++ l) same;
+      front = take-put_mid at _ bytes c.copy_from_slice.new.self (at + length c.args.part.now) (ap (λ l. at + length l) (sym same)) (omega arith) ∙ ap (λ l. take at bytes ++ l) same;
     }

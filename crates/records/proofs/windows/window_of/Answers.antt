@@ -6,11 +6,11 @@ pub returns-in-0 : goal.returns-in-0
 returns-in-0 c =
     let bs = c.args.bytes.now in
     let state = c.in-0.is in
-    ((λ i. sym state i ∷ c.kept-of.ensures i) ∙ window_cut bs (omega arith), unused_in_range bs state)
+    ((λ i. sym state i ∷ c.kept_of.ensures i) ∙ window_cut bs (omega arith), unused_in_range bs state)
 
-pub returns-in-ok-validity-of : goal.returns-in-ok-validity-of
-returns-in-ok-validity-of c =
+pub returns-in_ok-validity_of-in-1 : goal.returns-in_ok-validity_of-in-1
+returns-in_ok-validity_of-in-1 c =
     let bs = c.args.bytes.now in
     let state = c.in-1.is in
-    let told = c.in-ok-validity-of.ensures in
+    let told = c.in_ok-validity_of-in-1.ensures in
     ((λ i. sym state i ∷ (told.0 i ++ told.1 i)) ∙ validity_cut bs (omega arith), used_in_range bs state told.2)

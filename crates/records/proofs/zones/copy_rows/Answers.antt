@@ -8,7 +8,7 @@ use Rattle.records.proofs.zones.copy_rows.Goals as goal
 pub loop-row-preserved : goal.loop-row-preserved
 loop-row-preserved c =
     let l = c.loop-row in
-    (omega arith, copied_more c.args.rows.now l.out l.row-index l.at _ c.row-item.result c.copy-from-slice.new.self c.copy-from-slice.ensures.after c.loop-row-test.true c.row-item.is l.invariant.1 (omega arith))
+    (omega arith, copied_more c.args.rows.now l.out l.row-index l.at _ c.row-item.result c.copy_from_slice.new.self c.copy_from_slice.ensures.after c.loop-row-test.true c.row-item.is l.invariant.1 (omega arith))
 
 pub returns : goal.returns
 returns c =

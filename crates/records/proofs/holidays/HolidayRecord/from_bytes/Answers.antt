@@ -7,7 +7,7 @@ use Rattle.records.proofs.holidays.HolidayRecord.from_bytes.Goals as goal
 pub returns : goal.returns
 returns c =
     let bs = c.args.bytes.now in
-    let day = c.in-ok-day.ensures in
+    let day = c.in_ok-day.ensures in
     let whole = three_bytes bs (omega arith) in
     let number = le-leb (get_or bs 0 0) 99 (omega arith) in
-    (cc, ranges_read bs c.in-ok-day.day number day, number)
+    record { read = (cc, ranges_read bs c.in_ok-day.day number day); number = number }

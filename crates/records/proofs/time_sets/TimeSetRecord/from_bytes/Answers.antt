@@ -6,8 +6,8 @@ use Rattle.records.proofs.time_sets.TimeSetRecord.from_bytes.Goals as goal
 pub returns : goal.returns
 returns c =
     let bs = c.args.bytes.now in
-    let start = c.in-ok-start.ensures in
-    let end = c.in-ok-end.ensures in
+    let start = c.in_ok-start.ensures in
+    let end = c.in_ok-end.ensures in
     let whole = five_bytes bs (omega arith) in
-    let number = within 2 255 (get_or bs 0 0) (omega arith) (omega (arith, c.type-inv.bytes 0)) in
-    (cc, ranges_read bs c.in-ok-start.start c.in-ok-end.end number start end (omega arith), number)
+    let number = within 2 255 (get_or bs 0 0) (omega arith) (omega (arith, c.type_inv.bytes 0)) in
+    record { read = (cc, ranges_read bs c.in_ok-start.start c.in_ok-end.end number start end (omega arith)); number = number }
