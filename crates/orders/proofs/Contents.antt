@@ -17,8 +17,9 @@ use Rattle.records.specs.HolidayBytes as holiday
 use Rattle.records.specs.TimeSetBytes as time-set
 use Rattle.records.specs.UserBytes as user
 use Rattle.records.specs.ZoneBytes as zone
-use Rattle.orders.specs.Bodies.{size_taken, long_right}
-use Rattle.orders.specs.Fields.{every_record, counted, taken_right}
+use Rattle.orders.specs.Bodies.{long_right}
+use Rattle.orders.specs.Fields.{every_record, counted}
+use Rattle.orders.specs.Takings.{size_taken, taken_right}
 use Rattle.orders.specs.Frames.{overwrite_byte, content_bytes, ContentRight, CountedRight}
 use Rattle.orders.specs.Meanings.{Takes, nothing, a_user_number, a_card, a_user, a_time_set_number, a_zone_number, a_group_number, a_holiday_number, time_sets, zones, groups, holidays, Content}
 
@@ -87,15 +88,15 @@ pub content_in_range : (last : ℕ) (t : Takes) (x : Content t) → ContentRight
 content_in_range last nothing x right = refl
 content_in_range last a_user_number n right = refl
 content_in_range last a_card c right = refl
-content_in_range last a_user x right = and_from _ _ (overwrite_right x.0) (user.ranges-right last x.1 right)
+content_in_range last a_user x right = and_from _ _ (overwrite_right x.0) (user.ranges_right last x.1 right)
 content_in_range last a_time_set_number n right = right
 content_in_range last a_zone_number n right = right
 content_in_range last a_group_number n right = right
 content_in_range last a_holiday_number n right = right
-content_in_range last time_sets es right = counted_in_range time_set_bytes 5 time_set_ranges _ time_set_sized time-set.ranges-right es right
+content_in_range last time_sets es right = counted_in_range time_set_bytes 5 time_set_ranges _ time_set_sized time-set.ranges_right es right
 content_in_range last zones es right = counted_in_range zone_bytes 25 zone_ranges _ zone.sized (λ e is. is) es right
-content_in_range last groups es right = counted_in_range group_bytes 10 group_ranges _ group.sized group.ranges-right es right
-content_in_range last holidays es right = counted_in_range holiday_bytes 3 holiday_ranges _ holiday_sized holiday.ranges-right es right
+content_in_range last groups es right = counted_in_range group_bytes 10 group_ranges _ group.sized group.ranges_right es right
+content_in_range last holidays es right = counted_in_range holiday_bytes 3 holiday_ranges _ holiday_sized holiday.ranges_right es right
 
 overwrite_apart : (o p : Bool) → overwrite_byte o ≡ overwrite_byte p → o ≡ p
 overwrite_apart true true is = refl
@@ -105,8 +106,8 @@ overwrite_apart false false is = refl
 
 pub content_apart : (last : ℕ) (t : Takes) (x y : Content t) → ContentRight last t x → ContentRight last t y → content_bytes t x ≡ content_bytes t y → x ≡ y
 content_apart last nothing x y right right' is = refl
-content_apart last a_user_number n k right right' is = sym (user.number-back n (omega arith)) ∙ ap (number_from_digits 256) is ∙ user.number-back k (omega arith)
-content_apart last a_card c d right right' is = user.same-card c d right right' is
+content_apart last a_user_number n k right right' is = sym (user.number_back n (omega arith)) ∙ ap (number_from_digits 256) is ∙ user.number_back k (omega arith)
+content_apart last a_card c d right right' is = user.same_card c d right right' is
 content_apart last a_user x y right right' is =
     let over = overwrite_apart x.0 y.0 (ap (λ l. get_or l 4 0) is) in
     let same = user.apart x.1 y.1 (and_parts _ _ right).1 (and_parts _ _ right').1 (ap (λ l. take 4 l ++ drop 5 l) is) in

@@ -1,5 +1,5 @@
 -- Records read one behind the other, with what was read.
-use Rattle.std.proofs.Common.{◌≡◌, ℕ, suc, ◌+◌, ◌-◌, ◌*◌, ◌<◌, ◌≤◌, Bool, true, false, not, ◌&&◌, leb, List, [], ◌∷◌, ◌++◌, length, get_or, take, drop, is_err, Ok, Err, Result, sym, refl, ap, ◌∙◌, subst, mul-zero, mul-suc, arith}
+use Rattle.std.proofs.Common.{◌≡◌, ℕ, suc, ◌+◌, ◌-◌, ◌*◌, ◌<◌, ◌≤◌, Bool, true, false, not, ◌&&◌, leb, List, [], ◌∷◌, ◌++◌, length, get_or, take, drop, is_err, IfOk, Ok, Err, Result, sym, refl, ap, ◌∙◌, subst, mul-zero, mul-suc, arith}
 use borrow.Rule.Slice.PartMut.{put_mid}
 use Rattle.std.proofs.lemmas.List.{take_rest, append-nil, append_assoc, flat_map_more, length-append, length-drop, length-take-le, take_all, take_at, drop_at, drop_all}
 use Rattle.std.proofs.lemmas.Bool.{true≢false, false≢true, eqb-true, le-leb, lt-leb, and_from, and_left, and_right}
@@ -14,9 +14,9 @@ use Rattle.orders.specs.Bodies.{long_right}
 use Rattle.orders.specs.Fields.{every_record, counted, user_of}
 
 -- a read that is no error found a record
-pub read_found : {B : Type 0} (long : ℕ) (encoded : Entry B → List ℕ) (ranges : List ℕ → Bool) (numbers : ℕ → Bool) (bytes : List ℕ) (r : Result (Entry B) Misfit) → Reads long encoded ranges numbers bytes r → is_err r ≡ false → (e : Entry B) × (encoded e ≡ bytes) × (ranges bytes ≡ true) × (numbers e.number ≡ true)
-read_found long encoded ranges numbers bytes (Ok e) told is = (e, told.0, told.1, told.2)
-read_found long encoded ranges numbers bytes (Err m) told is = absurd (true≢false is)
+pub read_found : {B : Type 0} (long : ℕ) (encoded : Entry B → List ℕ) (ranges : List ℕ → Bool) (numbers : ℕ → Bool) (bytes : List ℕ) (r : Result (Entry B) Misfit) → Reads long encoded ranges bytes r → IfOk r (λ e. numbers e.number ≡ true) → is_err r ≡ false → (e : Entry B) × (encoded e ≡ bytes) × (ranges bytes ≡ true) × (numbers e.number ≡ true)
+read_found long encoded ranges numbers bytes (Ok e) told named is = (e, told.0, told.1, named)
+read_found long encoded ranges numbers bytes (Err m) told named is = absurd (true≢false is)
 
 pub none_read : {B : Type 0} (encoded : Entry B → List ℕ) (numbers : ℕ → Bool) → EntriesRead encoded numbers 0 []
 none_read encoded numbers = record { entries = []; many = refl; bytes = refl; in_range = tt }

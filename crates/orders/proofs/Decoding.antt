@@ -36,18 +36,18 @@ overwrite_again false = refl
 
 content_back : (last : ℕ) (t : Takes) (x : Content t) → ContentRight last t x → content_of t (content_bytes t x) ≡ Some x
 content_back last nothing x right = refl
-content_back last a_user_number n right = ap (λ k. Some k) (user.number-back n (omega arith))
-content_back last a_card c right = ap (λ k. Some k) (user.card-number c right)
+content_back last a_user_number n right = ap (λ k. Some k) (user.number_back n (omega arith))
+content_back last a_card c right = ap (λ k. Some k) (user.card_number c right)
 content_back last a_user x right =
-    ap (option_map (λ e. (eqb (overwrite_byte x.0) 1, e))) (back.user-yes x.1 (and_parts _ _ right).1) ∙ ap (λ o. Some (o, x.1)) (overwrite_again x.0)
+    ap (option_map (λ e. (eqb (overwrite_byte x.0) 1, e))) (back.user_yes x.1 (and_parts _ _ right).1) ∙ ap (λ o. Some (o, x.1)) (overwrite_again x.0)
 content_back last a_time_set_number n right = refl
 content_back last a_zone_number n right = refl
 content_back last a_group_number n right = refl
 content_back last a_holiday_number n right = refl
-content_back last time_sets es right = all_back time_set_bytes records.time-set-of 5 (λ e. refl) back.time-set-yes es
-content_back last zones es right = all_back zone_bytes records.zone-of 25 zone.sized back.zone-yes es
-content_back last groups es right = all_back group_bytes records.group_of 10 group.sized back.group-yes es
-content_back last holidays es right = all_back holiday_bytes records.holiday-of 3 (λ e. refl) back.holiday-yes es
+content_back last time_sets es right = all_back time_set_bytes records.time_set_of 5 (λ e. refl) back.time_set_yes es
+content_back last zones es right = all_back zone_bytes records.zone_of 25 zone.sized back.zone_yes es
+content_back last groups es right = all_back group_bytes records.group_of 10 group.sized back.group_yes es
+content_back last holidays es right = all_back holiday_bytes records.holiday_of 3 (λ e. refl) back.holiday_yes es
 
 pub computed : (last : ℕ) (f : List ℕ) (r : Result Meaning Refusal) → Asks last f r → meaning_of last f ≡ r
 computed last f (Ok m) asks = ap meaning_of_asked asks.0 ∙ ap (with_content m.0) (content_back last (takes m.0) m.1 asks.1)

@@ -8,3 +8,4 @@ pub mod NewUsers
 pub mod Places
 pub mod Ranging
 pub mod Taking
+pub mod Takings

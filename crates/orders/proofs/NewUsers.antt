@@ -29,13 +29,13 @@ behind body long = take_all 80 (drop 5 body) (omega (arith, length-drop 5 body))
 user_bytes_of : (body : List ℕ) (n : ℕ) → length body ≡ 85 → four n ≡ take 4 body → four n ++ take 80 (drop 5 body) ≡ user_of body
 user_bytes_of body n long is = λ i. is i ++ behind body long i
 
-pub user_not_found : (last : ℕ) (body : List ℕ) (n : ℕ) (r : Result (Entry User) Misfit) → length body ≡ 85 → four n ≡ take 4 body → Reads 84 user_bytes (user_ranges last) (user_may_have last) (four n ++ take 80 (drop 5 body)) r → is_err r ≡ true → user_ranges last (user_of body) ≡ false
+pub user_not_found : (last : ℕ) (body : List ℕ) (n : ℕ) (r : Result (Entry User) Misfit) → length body ≡ 85 → four n ≡ take 4 body → Reads 84 user_bytes (user_ranges last) (four n ++ take 80 (drop 5 body)) r → is_err r ≡ true → user_ranges last (user_of body) ≡ false
 user_not_found last body n r long is read wrong =
     let size : length (take 80 (drop 5 body)) ≡ 80 = length-take-le 80 (drop 5 body) (omega (arith, length-drop 5 body)) in
-    ap (user_ranges last) (sym (user_bytes_of body n long is)) ∙ read_tells 84 user_bytes (user_ranges last) (user_may_have last) (four n ++ take 80 (drop 5 body)) r true read (omega (arith, size)) wrong
+    ap (user_ranges last) (sym (user_bytes_of body n long is)) ∙ read_tells 84 user_bytes (user_ranges last) (four n ++ take 80 (drop 5 body)) r true read (omega (arith, size)) wrong
 
-pub user_found : (last : ℕ) (body : List ℕ) (n : ℕ) (r : Result (Entry User) Misfit) → length body ≡ 85 → get_or body 4 0 ≤ 1 → four n ≡ take 4 body → Reads 84 user_bytes (user_ranges last) (user_may_have last) (four n ++ take 80 (drop 5 body)) r → IfOk r (λ e. e.number ≡ n) → is_err r ≡ false → UserRead last body (record { number = n; overwrite = eqb (get_or body 4 0) 1; rest = 5 })
-user_found last body n (Ok e) long small is read number right =
+pub user_found : (last : ℕ) (body : List ℕ) (n : ℕ) (r : Result (Entry User) Misfit) → length body ≡ 85 → get_or body 4 0 ≤ 1 → four n ≡ take 4 body → Reads 84 user_bytes (user_ranges last) (four n ++ take 80 (drop 5 body)) r → IfOk r (λ e. e.number ≡ n) → IfOk r (λ e. user_may_have last e.number ≡ true) → is_err r ≡ false → UserRead last body (record { number = n; overwrite = eqb (get_or body 4 0) 1; rest = 5 })
+user_found last body n (Ok e) long small is read number named right =
     let rest = ap (drop 4) read.0 in
     let name = ap four number ∙ is in
     let over = overwrite_back (get_or body 4 0) small in
@@ -44,18 +44,18 @@ user_found last body n (Ok e) long small is read number right =
       entry = e;
       lies = (number, rest);
       bytes = (λ i. name i ++ (over i ∷ (rest ∙ behind body long) i)) ∙ ap (λ l. take 4 body ++ l) (sym tail) ∙ take-append-drop 4 body;
-      right = read.2;
+      right = named;
     }
-user_found last body n (Err m) long small is read number right = absurd (true≢false right)
+user_found last body n (Err m) long small is read number named right = absurd (true≢false right)
 
 -- ---- the user of an order, of the bytes beside it
 
-pub user_at : (last : ℕ) (u : NewUser) (bs : List ℕ) (r : Result (Entry User) Misfit) → u.rest + 80 ≤ length bs → Reads 84 user_bytes (user_ranges last) (user_may_have last) (four u.number ++ take 80 (drop u.rest bs)) r → IfOk r (λ e. e.number ≡ u.number) → FindsUser last u bs (result_ok r)
-user_at last u bs (Ok e) room read number = ((number, ap (drop 4) read.0), read.2)
-user_at last u bs (Err Size) room read number =
+pub user_at : (last : ℕ) (u : NewUser) (bs : List ℕ) (r : Result (Entry User) Misfit) → u.rest + 80 ≤ length bs → Reads 84 user_bytes (user_ranges last) (four u.number ++ take 80 (drop u.rest bs)) r → IfOk r (λ e. e.number ≡ u.number) → IfOk r (λ e. user_may_have last e.number ≡ true) → FindsUser last u bs (result_ok r)
+user_at last u bs (Ok e) room read number named = ((number, ap (drop 4) read.0), named)
+user_at last u bs (Err Size) room read number named =
     let part : length (take 80 (drop u.rest bs)) ≡ 80 = length-take-le 80 (drop u.rest bs) (omega (arith, length-drop u.rest bs)) in
     absurd (read (omega (arith, part)))
-user_at last u bs (Err Range) room read number = λ _. read.1
+user_at last u bs (Err Range) room read number named = λ _. read.1
 
 behind_is : (u : NewUser) (bs : List ℕ) (e : Entry User) → LiesBehind u bs e → user_bytes e ≡ four u.number ++ take 80 (drop u.rest bs)
 behind_is u bs e lies = λ i. four (lies.0 i) ++ lies.1 i
@@ -67,4 +67,4 @@ user_all last u bs None found e lies right =
     let long = ap length lies.1 ∙ length-take 80 (drop u.rest bs) in
     let whole = user.sized e in
     let left = length-drop u.rest bs in
-    absurd (true≢false (sym (ap (user_ranges last) (sym (behind_is u bs e lies)) ∙ user.ranges-right last e right) ∙ found (omega (arith, long, whole, left))))
+    absurd (true≢false (sym (ap (user_ranges last) (sym (behind_is u bs e lies)) ∙ user.ranges_right last e right) ∙ found (omega (arith, long, whole, left))))

@@ -1,5 +1,5 @@
 -- The records that lie at a place, one by one.
-use Rattle.std.proofs.Common.{◌≡◌, ℕ, zero, suc, ◌+◌, ◌*◌, ◌<◌, ◌≤◌, Bool, true, false, List, [], ◌∷◌, ◌++◌, length, get_or, take, drop, Some, None, Ok, Err, Option, Result, sym, refl, ap, ◌∙◌, subst, ⊎_elim, mul-le-mul_left, mul-zero, mul-suc, arith}
+use Rattle.std.proofs.Common.{◌≡◌, ℕ, zero, suc, ◌+◌, ◌*◌, ◌<◌, ◌≤◌, Bool, true, false, List, [], ◌∷◌, ◌++◌, length, get_or, take, drop, IfOk, Some, None, Ok, Err, Option, Result, sym, refl, ap, ◌∙◌, subst, ⊎_elim, mul-le-mul_left, mul-zero, mul-suc, arith}
 use Rattle.std.specs.Result.{result_ok}
 use Rattle.std.specs.List.{flat_map, AllByRecursion as All, slice_get}
 use Rattle.std.proofs.lemmas.List.{append_assoc, length-append, length-drop, length-take, length-take-le, take_at, drop_at, drop-drop, take-append-drop}
@@ -15,10 +15,10 @@ use Rattle.orders.specs.Orders.{Lies, record_bytes, Finds, FindsAll}
 
 module _ {B : Type 0} (encoded : Entry B → List ℕ) (size : ℕ) (ranges : List ℕ → Bool) (numbers : ℕ → Bool) where
   -- a part that was there, read as a record
-  pub found_at : (p : Place) (bs part : List ℕ) (k : ℕ) (r : Result (Entry B) Misfit) → k < p.count → part ≡ record_bytes size p bs k → Reads size encoded ranges numbers part r → Finds encoded size ranges numbers p bs k (result_ok r)
-  found_at p bs part k (Ok e) turn is read = (turn, read.0 ∙ is, sym (ap ranges is) ∙ read.1, read.2)
-  found_at p bs part k (Err Size) turn is read = λ _ room. absurd (read (ap length is ∙ length-take-le size (drop (p.start + size * k) bs) (omega (arith, length-drop (p.start + size * k) bs))))
-  found_at p bs part k (Err Range) turn is read = λ _ _. sym (ap ranges is) ∙ read.1
+  pub found_at : (p : Place) (bs part : List ℕ) (k : ℕ) (r : Result (Entry B) Misfit) → k < p.count → part ≡ record_bytes size p bs k → Reads size encoded ranges part r → IfOk r (λ e. numbers e.number ≡ true) → Finds encoded size ranges numbers p bs k (result_ok r)
+  found_at p bs part k (Ok e) turn is read named = (turn, read.0 ∙ is, sym (ap ranges is) ∙ read.1, named)
+  found_at p bs part k (Err Size) turn is read named = λ _ room. absurd (read (ap length is ∙ length-take-le size (drop (p.start + size * k) bs) (omega (arith, length-drop (p.start + size * k) bs))))
+  found_at p bs part k (Err Range) turn is read named = λ _ _. sym (ap ranges is) ∙ read.1
 
   -- a part that was not there
   pub not_there : (p : Place) (bs : List ℕ) (k : ℕ) → (k < p.count → length bs < p.start + size * k + size) → Finds encoded size ranges numbers p bs k None

@@ -28,15 +28,15 @@ abbrev pub content_of : (t : Takes) → List ℕ → Option (Content t)
 content_of nothing body = Some tt
 content_of a_user_number body = Some (number_from_digits 256 body)
 content_of a_card body = Some (number_from_digits 256 body)
-content_of a_user body = option_map (λ e. ((slice_index body 4 == 1), e)) (records.user-of (user_of body))
+content_of a_user body = option_map (λ e. ((slice_index body 4 == 1), e)) (records.user_of (user_of body))
 content_of a_time_set_number body = Some (slice_index body 0)
 content_of a_zone_number body = Some (slice_index body 0)
 content_of a_group_number body = Some (slice_index body 0)
 content_of a_holiday_number body = Some (slice_index body 0)
-content_of time_sets body = counted_of records.time-set-of 5 body
-content_of zones body = counted_of records.zone-of 25 body
+content_of time_sets body = counted_of records.time_set_of 5 body
+content_of zones body = counted_of records.zone_of 25 body
 content_of groups body = counted_of records.group_of 10 body
-content_of holidays body = counted_of records.holiday-of 3 body
+content_of holidays body = counted_of records.holiday_of 3 body
 
 abbrev pub with_content : (c : Command) → Option (Content (takes c)) → Result Meaning Refusal
 with_content c (Some x) = Ok (c, x)

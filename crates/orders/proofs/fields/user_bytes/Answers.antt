@@ -3,4 +3,4 @@ use Rattle.orders.proofs.Ranging.{user_filled}
 use Rattle.orders.proofs.fields.user_bytes.Goals as goal
 
 pub returns : goal.returns
-returns c = user_filled c.copy-from-slice.new.self c.copy-from-slice-2.new.self _ c.args.body.now c.requires refl c.copy-from-slice.ensures.after c.copy-from-slice-2.ensures.after
+returns c = user_filled c.copy_from_slice.new.self c.copy_from_slice-2.new.self _ c.args.body.now c.requires refl c.copy_from_slice.ensures.after c.copy_from_slice-2.ensures.after

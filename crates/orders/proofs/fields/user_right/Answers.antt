@@ -8,7 +8,7 @@ pub returns-then-body-le-OVERWRITE : goal.returns-then-body-le-OVERWRITE
 returns-then-body-le-OVERWRITE c =
     let body = c.args.body.now in
     let ranges = user_ranges c.args.last_user in
-    let user = c.user-bytes-user.result in
-    let is = c.user-bytes-user.ensures in
-    let tells = read_tells 84 user_bytes ranges user c.from-bytes.result _ c.from-bytes.ensures (eighty_five body user c.requires is) c.is-ok.ensures.negation in
-    both_tell c.is-ok.result _ _ (le-leb (get_or body 4 0) 1 c.if-body-le-OVERWRITE.true) (sym (ap ranges is) ∙ tells)
+    let user = c.user_bytes-user.result in
+    let is = c.user_bytes-user.ensures in
+    let tells = read_tells 84 user_bytes ranges user c.from_bytes.result _ c.from_bytes.ensures.read (eighty_five body user c.requires is) c.is_ok.ensures.negation in
+    both_tell c.is_ok.result _ _ (le-leb (get_or body 4 0) 1 c.if-body-le-OVERWRITE.true) (sym (ap ranges is) ∙ tells)

@@ -9,10 +9,10 @@ returns c =
     let h = c.args.heading.now in
     let n = c.args.«data» in
     let before = c.args.out.now in
-    let size = c.in-ok-size.ensures in
+    let size = c.in_ok-size.ensures in
     let length = c.in-Ok.ensures in
     let inner : c.in-Ok.length - 18 ≡ n = omega arith in
-    let front = c.copy-from-slice.ensures.after ∙ c.header-array.ensures ∙ ap (header h) inner in
-    let out = c.copy-from-slice.new.self ++ drop 16 before in
+    let front = c.copy_from_slice.ensures.after ∙ c.header_array.ensures ∙ ap (header h) inner in
+    let out = c.copy_from_slice.new.self ++ drop 16 before in
     let sums : c.checksum.result ≡ sum (take (16 + n) out) % 256 = c.checksum.ensures ∙ ap (λ k. sum (take k out) % 256) (sub-zero (16 + n)) in
     (omega arith, enclosed h n before out c.checksum.result (omega arith) (ap (λ l. l ++ drop 16 before) front) sums)

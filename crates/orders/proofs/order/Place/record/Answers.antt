@@ -4,8 +4,8 @@ use Rattle.orders.specs.Orders.{Finds, record_bytes}
 use Rattle.orders.proofs.Places.{found_at, not_there, finds_all}
 use Rattle.orders.proofs.order.Place.record.Goals as goal
 
-pub returns-in-err-part : goal.returns-in-err-part
-returns-in-err-part g c =
+pub returns-in_err-part : goal.returns-in_err-part
+returns-in_err-part g c =
     let encoded = g.R.Record.encoded in
     let long = g.R.Record.long in
     let last = c.args.last_user in
@@ -15,9 +15,9 @@ returns-in-err-part g c =
     let bs = c.args.bytes.now in
     let k = c.args.turn in
     let laws = g.met.R.Record in
-    let short : k < p.count → length bs < p.start + long * k + long = subst (λ n. k < p.count → length bs < p.start + n * k + n) c.size.ensures c.in-err-part.ensures in
+    let short : k < p.count → length bs < p.start + long * k + long = subst (λ n. k < p.count → length bs < p.start + n * k + n) c.size.ensures c.in_err-part.ensures in
     let value = not_there encoded long ranges numbers p bs k short in
-    rw c.from-residual.ensures (record {
+    rw c.from_residual.ensures (record {
       value = value;
       all = finds_all encoded long ranges numbers laws.sized p bs k None laws.some_bytes (laws.reads_back last) (λ e f right right' is. laws.apart e f (laws.fits last e.number right) (laws.fits last f.number right') is) value;
     })
@@ -33,10 +33,10 @@ returns g c =
     let bs = c.args.bytes.now in
     let k = c.args.turn in
     let laws = g.met.R.Record in
-    let part = c.in-ok-part.ensures in
+    let part = c.in_ok-part.ensures in
     let there = part.1 ∙ ap (λ n. record_bytes n p bs k) c.size.ensures in
-    let value = found_at encoded long ranges numbers p bs c.in-ok-part.part.now k c.from-bytes.result part.0 there c.from-bytes.ensures in
+    let value = found_at encoded long ranges numbers p bs c.in_ok-part.part.now k c.from_bytes.result part.0 there c.from_bytes.ensures.read c.from_bytes.ensures.number in
     rw c.ok.ensures.value (record {
       value = value;
-      all = finds_all encoded long ranges numbers laws.sized p bs k (result_ok c.from-bytes.result) laws.some_bytes (laws.reads_back last) (λ e f right right' is. laws.apart e f (laws.fits last e.number right) (laws.fits last f.number right') is) value;
+      all = finds_all encoded long ranges numbers laws.sized p bs k (result_ok c.from_bytes.result) laws.some_bytes (laws.reads_back last) (λ e f right right' is. laws.apart e f (laws.fits last e.number right) (laws.fits last f.number right') is) value;
     })

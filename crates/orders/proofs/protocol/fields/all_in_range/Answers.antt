@@ -7,8 +7,8 @@ use Rattle.orders.proofs.Ranging.{one_and_others, record_on, read_tells}
 use Rattle.orders.proofs.Counting.{read_found, none_read, one_read_more, all_done}
 use Rattle.orders.proofs.protocol.fields.all_in_range.Goals as goal
 
-pub split-at-requires : goal.split-at-requires
-split-at-requires g c = omega (arith, one_and_others g.R.Record.long c.loop-left.left c.loop-left-test.true, c.size-size.ensures, c.loop-left.invariant.0)
+pub split_at-requires : goal.split_at-requires
+split_at-requires g c = omega (arith, one_and_others g.R.Record.long c.loop-left.left c.loop-left-test.true, c.size-size.ensures, c.loop-left.invariant.0)
 
 pub loop-left-init : goal.loop-left-init
 loop-left-init g c = (c.requires, refl, [], refl, 0, omega arith, none_read g.R.Record.encoded (g.R.Record.numbers c.args.last_user))
@@ -21,14 +21,14 @@ loop-left-preserved g c =
     let numbers = g.R.Record.numbers c.args.last_user in
     let l = c.loop-left in
     let size = c.size-size.ensures in
-    let parts = c.split-at.ensures in
-    let first = c.split-at.result.0.now in
-    let after = c.split-at.result.1.now in
+    let parts = c.split_at.ensures in
+    let first = c.split_at.result.0.now in
+    let after = c.split_at.result.1.now in
     let front = parts.front ∙ ap (λ n. take n l.rest.now) size in
     let back = parts.back ∙ ap (λ n. drop n l.rest.now) size in
     let on = record_on ranges long l.left l.rest.now first after c.loop-left-test.true front back in
-    let right = read_tells long encoded ranges numbers first c.from-bytes.result _ c.from-bytes.ensures (parts.front-len ∙ size) (sym c.if-is-err.ensures.value) in
-    let found = read_found long encoded ranges numbers first c.from-bytes.result c.from-bytes.ensures (sym c.if-is-err.ensures.value) in
+    let right = read_tells long encoded ranges first c.from_bytes.result _ c.from_bytes.ensures.read (parts.front_len ∙ size) (sym c.if-is_err.ensures.value) in
+    let found = read_found long encoded ranges numbers first c.from_bytes.result c.from_bytes.ensures.read c.from_bytes.ensures.number (sym c.if-is_err.ensures.value) in
     let done = l.invariant.2 in
     let whole : (done ++ first) ++ after ≡ c.args.records.now = append_assoc done first after ∙ ap (λ r. done ++ r) ((λ i. front i ++ back i) ∙ take-append-drop long l.rest.now) ∙ l.invariant.3 in
     let k = l.invariant.4 in (
@@ -41,18 +41,17 @@ loop-left-preserved g c =
       one_read_more encoded numbers k done first found.0 l.invariant.6 found.1 found.3,
     )
 
-pub returns-then-is-err : goal.returns-then-is-err
-returns-then-is-err g c =
+pub returns-then-is_err : goal.returns-then-is_err
+returns-then-is_err g c =
     let long = g.R.Record.long in
     let ranges = g.R.Record.ranges c.args.last_user in
-    let numbers = g.R.Record.numbers c.args.last_user in
     let l = c.loop-left in
     let size = c.size-size.ensures in
-    let parts = c.split-at.ensures in
-    let on = record_on ranges long l.left l.rest.now c.split-at.result.0.now c.split-at.result.1.now c.loop-left-test.true (parts.front ∙ ap (λ n. take n l.rest.now) size) (parts.back ∙ ap (λ n. drop n l.rest.now) size) in
-    let wrong = read_tells long g.R.Record.encoded ranges numbers c.split-at.result.0.now c.from-bytes.result _ c.from-bytes.ensures (parts.front-len ∙ size) (sym c.if-is-err.ensures.value) in
+    let parts = c.split_at.ensures in
+    let on = record_on ranges long l.left l.rest.now c.split_at.result.0.now c.split_at.result.1.now c.loop-left-test.true (parts.front ∙ ap (λ n. take n l.rest.now) size) (parts.back ∙ ap (λ n. drop n l.rest.now) size) in
+    let wrong = read_tells long g.R.Record.encoded ranges c.split_at.result.0.now c.from_bytes.result _ c.from_bytes.ensures.read (parts.front_len ∙ size) (sym c.if-is_err.ensures.value) in
     record {
-      value = sym (on ∙ ap (λ t. t && every_record ranges long (l.left - 1) c.split-at.result.1.now) wrong) ∙ l.invariant.1;
+      value = sym (on ∙ ap (λ t. t && every_record ranges long (l.left - 1) c.split_at.result.1.now) wrong) ∙ l.invariant.1;
       read = λ is. absurd (false≢true is);
     }
 

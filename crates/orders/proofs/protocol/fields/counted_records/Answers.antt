@@ -8,8 +8,8 @@ use Rattle.orders.proofs.protocol.fields.counted_records.Goals as goal
 pub returns-then-count-lt-FEWEST_RECORDS : goal.returns-then-count-lt-FEWEST_RECORDS
 returns-then-count-lt-FEWEST_RECORDS g c = (refl, counted_few (g.R.Record.ranges c.args.last_user) g.R.Record.long c.args.body.now (omega arith))
 
-pub returns-then-not-all-in-range : goal.returns-then-not-all-in-range
-returns-then-not-all-in-range g c = (refl, counted_wrong (g.R.Record.ranges c.args.last_user) g.R.Record.long c.args.body.now (ap (every_record (g.R.Record.ranges c.args.last_user) g.R.Record.long (get_or c.args.body.now 0 0)) (sym (take_rest c.args.body.now 1)) ∙ sym c.all-in-range.ensures.value ∙ c.if-not-all-in-range.true))
+pub returns-then-not-all_in_range : goal.returns-then-not-all_in_range
+returns-then-not-all_in_range g c = (refl, counted_wrong (g.R.Record.ranges c.args.last_user) g.R.Record.long c.args.body.now (ap (every_record (g.R.Record.ranges c.args.last_user) g.R.Record.long (get_or c.args.body.now 0 0)) (sym (take_rest c.args.body.now 1)) ∙ sym c.all_in_range.ensures.value ∙ c.if-not-all_in_range.true))
 
 pub returns : goal.returns
-returns g c = counted_done g.R.Record.encoded (g.R.Record.numbers c.args.last_user) g.R.Record.long c.args.body.now c.requires (omega arith) (omega (arith, c.type_inv.body 0)) (subst (λ l. EntriesRead g.R.Record.encoded (g.R.Record.numbers c.args.last_user) (get_or c.args.body.now 0 0) l) (take_rest c.args.body.now 1) (c.all-in-range.ensures.read c.if-not-all-in-range.false))
+returns g c = counted_done g.R.Record.encoded (g.R.Record.numbers c.args.last_user) g.R.Record.long c.args.body.now c.requires (omega arith) (omega (arith, c.type_inv.body 0)) (subst (λ l. EntriesRead g.R.Record.encoded (g.R.Record.numbers c.args.last_user) (get_or c.args.body.now 0 0) l) (take_rest c.args.body.now 1) (c.all_in_range.ensures.read c.if-not-all_in_range.false))
