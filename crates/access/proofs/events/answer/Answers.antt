@@ -7,7 +7,7 @@ pub returns-in-Some : goal.returns-in-Some
 returns-in-Some g c =
     let tables = c.args.tables.now in
     let s = standing g.M.Users.Table.at g.M.Users.Table.high g.M.TimeSets.Table.at g.M.Zones.Table.at g.M.Groups.Table.at g.M.Holidays.Table.at g.M.Holidays.Table.high tables in
-    let value = told_some s c.args.card c.args.door.number c.args.minute.now c.in-Some.found.now c.user-event.result c.in-Some.ensures c.user-event.ensures in
+    let value = told_some s c.args.card c.args.door.number c.args.minute.now c.in-Some.found.now c.user_event.result c.in-Some.ensures c.user_event.ensures in
     record {
       value = value;
       laws = laws_at s c.args.card c.args.door.number c.args.minute.now (record {

@@ -12,8 +12,8 @@ use Rattle.access.proofs.groups.decide.Goals as goal
 abbrev held : (g : given.Over) → Tables g.row.M.Denot g.row.M-Users.Denot g.row.M-TimeSets.Denot g.row.M-Zones.Denot g.row.M-Groups.Denot g.row.M-Holidays.Denot → Standing
 held g t = standing g.M.Users.Table.at g.M.Users.Table.high g.M.TimeSets.Table.at g.M.Zones.Table.at g.M.Groups.Table.at g.M.Holidays.Table.at g.M.Holidays.Table.high t
 
-pub groups-preserved-in-default : goal.groups-preserved-in-default
-groups-preserved-in-default g c =
+pub groups-preserved-in_default : goal.groups-preserved-in_default
+groups-preserved-in_default g c =
     let s = held g c.args.tables.now in
     let door = c.args.door.number in
     let x = c.args.minute.now in
@@ -21,7 +21,7 @@ groups-preserved-in-default g c =
     let i = c.groups.number-index in
     let e = c.groups.event in
     let n = get_or ns i 0 in
-    let none = group_none s door x n c.if-number-eq-EVERY_DOOR.false c.in-default.ensures in
+    let none = group_none s door x n c.if-number-eq-EVERY_DOOR.false c.in_default.ensures in
     sym (decided_shut (group_opens s door) (group_admits s door x) ns i c.groups-test.true e none) ∙ c.groups.invariant
 
 pub groups-preserved-then-not-opens : goal.groups-preserved-then-not-opens
@@ -36,8 +36,8 @@ groups-preserved-then-not-opens g c =
     let shut = group_shut s door x n c.if-number-eq-EVERY_DOOR.false c.in-Some.group.now c.in-Some.ensures (sym c.opens.ensures ∙ c.if-not-opens.true) in
     sym (decided_shut (group_opens s door) (group_admits s door x) ns i c.groups-test.true e shut) ∙ c.groups.invariant
 
-pub groups-preserved-in-default-look-up : goal.groups-preserved-in-default-look-up
-groups-preserved-in-default-look-up g c =
+pub groups-preserved-in_default-look_up : goal.groups-preserved-in_default-look_up
+groups-preserved-in_default-look_up g c =
     let s = held g c.args.tables.now in
     let door = c.args.door.number in
     let x = c.args.minute.now in
@@ -45,20 +45,20 @@ groups-preserved-in-default-look-up g c =
     let i = c.groups.number-index in
     let e = c.groups.event in
     let n = get_or ns i 0 in
-    let z = c.zone-for-named.result in
+    let z = c.zone_for-named.result in
     let opening = sym c.opens.ensures ∙ c.if-not-opens.false in
     let opened = group_open s door x n c.if-number-eq-EVERY_DOOR.false c.in-Some.group.now c.in-Some.ensures opening in
-    let by-zone = group_zone s door x n c.if-number-eq-EVERY_DOOR.false c.in-Some.group.now c.in-Some.ensures opening z c.zone-for-named.ensures in
-    let none = by-zone ∙ zone_none s x z c.if-named-eq-ALWAYS.false c.in-default-look-up.ensures in
+    let by-zone = group_zone s door x n c.if-number-eq-EVERY_DOOR.false c.in-Some.group.now c.in-Some.ensures opening z c.zone_for-named.ensures in
+    let none = by-zone ∙ zone_none s x z c.if-named-eq-ALWAYS.false c.in_default-look_up.ensures in
     sym (decided_open (group_opens s door) (group_admits s door x) ns i c.groups-test.true e none opened) ∙ c.groups.invariant
 
 pub loop-set-preserved : goal.loop-set-preserved
 loop-set-preserved g c =
     let s = held g c.args.tables.now in
     let x = c.args.minute.now in
-    let sets = c.row-sets-set-items.result.now in
+    let sets = c.row_sets-set-items.result.now in
     let j = c.loop-set.set-index in
-    (c.loop-set.invariant.0, sym (some_of_more (set_covers s x) sets j c.loop-set-test.true (sym c.set-covers.ensures ∙ c.if-set-covers.false)) ∙ c.loop-set.invariant.1)
+    (c.loop-set.invariant.0, sym (some_of_more (set_covers s x) sets j c.loop-set-test.true (sym c.set_covers.ensures ∙ c.if-set_covers.false)) ∙ c.loop-set.invariant.1)
 
 pub groups-preserved : goal.groups-preserved
 groups-preserved g c =
@@ -69,13 +69,13 @@ groups-preserved g c =
     let i = c.groups.number-index in
     let e = c.groups.event in
     let n = get_or ns i 0 in
-    let sets = c.row-sets-set-items.result.now in
+    let sets = c.row_sets-set-items.result.now in
     let j = c.loop-set.set-index in
-    let z = c.zone-for-named.result in
+    let z = c.zone_for-named.result in
     let opening = sym c.opens.ensures ∙ c.if-not-opens.false in
-    let by-zone = group_zone s door x n c.if-number-eq-EVERY_DOOR.false c.in-Some.group.now c.in-Some.ensures opening z c.zone-for-named.ensures in
-    let day-is = c.row-of-day.ensures ∙ ap (row_of s) c.date.ensures in
-    let by-sets = by-zone ∙ zone_row s x z c.in-Some-look-up.zone.now c.row-of-day.result sets c.if-named-eq-ALWAYS.false c.in-Some-look-up.ensures day-is c.row-sets-set-items.ensures in
+    let by-zone = group_zone s door x n c.if-number-eq-EVERY_DOOR.false c.in-Some.group.now c.in-Some.ensures opening z c.zone_for-named.ensures in
+    let day-is = c.row_of-day.ensures ∙ ap (row_of s) c.date.ensures in
+    let by-sets = by-zone ∙ zone_row s x z c.in-Some-look_up.zone.now c.row_of-day.result sets c.if-named-eq-ALWAYS.false c.in-Some-look_up.ensures day-is c.row_sets-set-items.ensures in
     let none = by-sets ∙ sym c.loop-set.invariant.1 ∙ at_drop_all (some_of (set_covers s x)) sets j c.loop-set-test.false in
     let opened = group_open s door x n c.if-number-eq-EVERY_DOOR.false c.in-Some.group.now c.in-Some.ensures opening in
     ap (λ v. decided (group_opens s door) (group_admits s door x) v (drop (i + 1) ns)) c.loop-set.invariant.0
@@ -111,13 +111,13 @@ returns-then-named-eq-ALWAYS g c =
     let i = c.groups.number-index in
     let e = c.groups.event in
     let n = get_or ns i 0 in
-    let z = c.zone-for-named.result in
+    let z = c.zone_for-named.result in
     let opening = sym c.opens.ensures ∙ c.if-not-opens.false in
-    let by-zone = group_zone s door x n c.if-number-eq-EVERY_DOOR.false c.in-Some.group.now c.in-Some.ensures opening z c.zone-for-named.ensures in
+    let by-zone = group_zone s door x n c.if-number-eq-EVERY_DOOR.false c.in-Some.group.now c.in-Some.ensures opening z c.zone_for-named.ensures in
     admitted s door x ns i e c.groups-test.true c.groups.invariant (by-zone ∙ meant_always s.zones _ z c.if-named-eq-ALWAYS.true)
 
-pub returns-then-set-covers : goal.returns-then-set-covers
-returns-then-set-covers g c =
+pub returns-then-set_covers : goal.returns-then-set_covers
+returns-then-set_covers g c =
     let s = held g c.args.tables.now in
     let door = c.args.door.number in
     let x = c.args.minute.now in
@@ -125,12 +125,12 @@ returns-then-set-covers g c =
     let i = c.groups.number-index in
     let e = c.groups.event in
     let n = get_or ns i 0 in
-    let sets = c.row-sets-set-items.result.now in
+    let sets = c.row_sets-set-items.result.now in
     let j = c.loop-set.set-index in
-    let z = c.zone-for-named.result in
+    let z = c.zone_for-named.result in
     let opening = sym c.opens.ensures ∙ c.if-not-opens.false in
-    let by-zone = group_zone s door x n c.if-number-eq-EVERY_DOOR.false c.in-Some.group.now c.in-Some.ensures opening z c.zone-for-named.ensures in
-    let day-is = c.row-of-day.ensures ∙ ap (row_of s) c.date.ensures in
-    let by-sets = by-zone ∙ zone_row s x z c.in-Some-look-up.zone.now c.row-of-day.result sets c.if-named-eq-ALWAYS.false c.in-Some-look-up.ensures day-is c.row-sets-set-items.ensures in
-    let covered = some_of_here (set_covers s x) sets j c.loop-set-test.true (sym c.set-covers.ensures ∙ c.if-set-covers.true) in
+    let by-zone = group_zone s door x n c.if-number-eq-EVERY_DOOR.false c.in-Some.group.now c.in-Some.ensures opening z c.zone_for-named.ensures in
+    let day-is = c.row_of-day.ensures ∙ ap (row_of s) c.date.ensures in
+    let by-sets = by-zone ∙ zone_row s x z c.in-Some-look_up.zone.now c.row_of-day.result sets c.if-named-eq-ALWAYS.false c.in-Some-look_up.ensures day-is c.row_sets-set-items.ensures in
+    let covered = some_of_here (set_covers s x) sets j c.loop-set-test.true (sym c.set_covers.ensures ∙ c.if-set_covers.true) in
     admitted s door x ns i e c.groups-test.true c.groups.invariant (by-sets ∙ sym c.loop-set.invariant.1 ∙ covered)

@@ -23,5 +23,5 @@ pub returns : goal.returns
 returns g c =
     let t = c.args.table.now in
     let test = g.Q.Question.asked c.args.question.now in
-    let none = c.in-default.ensures in
+    let none = c.in_default.ensures in
     sym (lowest_none (g.T.Table.at t) test (suc (g.T.Table.high t)) (λ k h. ⊎_elim (λ less. c.loop-number.invariant.0 k less) (λ from. ap (passes test) (none k from)) (cases_lt k (start c.loop-number.reached))))
