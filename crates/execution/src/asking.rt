@@ -49,7 +49,7 @@ fn found(there: bool, refusal: Refusal) -> Result<(), Refusal>
 
 // Are the groups there that the user names, may it take its number, and has no other user its card?
 fn ask_user<M: Makes>(tables: &Tables<M>, new: &NewUser, bytes: &[u8]) -> Result<(), Refusal>
-    ensures { (e : Entry Person) → LiesBehind new.now bytes.now e → user_may_have (Users-as-Table.high tables.now.users) e.number ≡ true → result ≡ admitted_or (objection (standing Users-as-Table.at Users-as-Table.high TimeSets-as-Table.at Zones-as-Table.at Groups-as-Table.at Holidays-as-Table.at Holidays-as-Table.high tables.now) RegisterUser (new.now.overwrite, e)) }
+    ensures { (e : Entry Person) → LiesBehind new.now bytes.now e → user_may_have (M.Users.Table.high tables.now.users) e.number ≡ true → result ≡ admitted_or (objection (standing M.Users.Table.at M.Users.Table.high M.TimeSets.Table.at M.Zones.Table.at M.Groups.Table.at M.Holidays.Table.at M.Holidays.Table.high tables.now) RegisterUser (new.now.overwrite, e)) }
 {
     let Some(user) = new.user(tables.users.last(), bytes) else {
         return Err(Refusal::Range);
@@ -66,7 +66,7 @@ fn ask_user<M: Makes>(tables: &Tables<M>, new: &NewUser, bytes: &[u8]) -> Result
 
 // The questions that ask the tables, for an order in range: the first answered no refuses it.
 pub fn ask_tables<M: Makes>(tables: &Tables<M>, order: &Order, bytes: &[u8]) -> Result<(), Refusal>
-    ensures { (m : Meaning) → Brings order.now bytes.now m → Right (Users-as-Table.high tables.now.users) m → result ≡ asked_tables (standing Users-as-Table.at Users-as-Table.high TimeSets-as-Table.at Zones-as-Table.at Groups-as-Table.at Holidays-as-Table.at Holidays-as-Table.high tables.now) m }
+    ensures { (m : Meaning) → Brings order.now bytes.now m → Right (M.Users.Table.high tables.now.users) m → result ≡ asked_tables (standing M.Users.Table.at M.Users.Table.high M.TimeSets.Table.at M.Zones.Table.at M.Groups.Table.at M.Holidays.Table.at M.Holidays.Table.high tables.now) m }
 {
     let last_user = tables.users.last();
     match order {

@@ -42,8 +42,8 @@ returns-in-PutTimeSets g c = λ m brings right.
     let p = c.in-PutTimeSets.place in
     let brought = brings_as c.args.order.now (order.PutTimeSets p) c.args.bytes.now m c.in-PutTimeSets.is brings in
     let es = brought.0 in
-    let counted = right_as (g.Users.Table.high c.args.tables.now.users) m (command.PutTimeSets, es) brought.2 right in
-    let e = c.put-all.ensures in
+    let counted = right_as (g.M.Users.Table.high c.args.tables.now.users) m (command.PutTimeSets, es) brought.2 right in
+    let e = c.put_all.ensures in
     done_as m (command.PutTimeSets, es) brought.2 (record { users = unchanged _; time_sets = record { low = e.low; high = e.high; map = e.map es brought.1 counted.2 }; zones = unchanged _; groups = unchanged _; holidays = unchanged _; log_is = refl })
 
 pub returns-in-PutZones : goal.returns-in-PutZones
@@ -51,8 +51,8 @@ returns-in-PutZones g c = λ m brings right.
     let p = c.in-PutZones.place in
     let brought = brings_as c.args.order.now (order.PutZones p) c.args.bytes.now m c.in-PutZones.is brings in
     let es = brought.0 in
-    let counted = right_as (g.Users.Table.high c.args.tables.now.users) m (command.PutZones, es) brought.2 right in
-    let e = c.put-all-in-PutZones.ensures in
+    let counted = right_as (g.M.Users.Table.high c.args.tables.now.users) m (command.PutZones, es) brought.2 right in
+    let e = c.put_all-in-PutZones.ensures in
     done_as m (command.PutZones, es) brought.2 (record { users = unchanged _; time_sets = unchanged _; zones = record { low = e.low; high = e.high; map = e.map es brought.1 counted.2 }; groups = unchanged _; holidays = unchanged _; log_is = refl })
 
 pub returns-in-PutGroups : goal.returns-in-PutGroups
@@ -60,8 +60,8 @@ returns-in-PutGroups g c = λ m brings right.
     let p = c.in-PutGroups.place in
     let brought = brings_as c.args.order.now (order.PutGroups p) c.args.bytes.now m c.in-PutGroups.is brings in
     let es = brought.0 in
-    let counted = right_as (g.Users.Table.high c.args.tables.now.users) m (command.PutGroups, es) brought.2 right in
-    let e = c.put-all-in-PutGroups.ensures in
+    let counted = right_as (g.M.Users.Table.high c.args.tables.now.users) m (command.PutGroups, es) brought.2 right in
+    let e = c.put_all-in-PutGroups.ensures in
     done_as m (command.PutGroups, es) brought.2 (record { users = unchanged _; time_sets = unchanged _; zones = unchanged _; groups = record { low = e.low; high = e.high; map = e.map es brought.1 counted.2 }; holidays = unchanged _; log_is = refl })
 
 pub returns-in-PutHolidays : goal.returns-in-PutHolidays
@@ -69,28 +69,28 @@ returns-in-PutHolidays g c = λ m brings right.
     let p = c.in-PutHolidays.place in
     let brought = brings_as c.args.order.now (order.PutHolidays p) c.args.bytes.now m c.in-PutHolidays.is brings in
     let es = brought.0 in
-    let counted = right_as (g.Users.Table.high c.args.tables.now.users) m (command.PutHolidays, es) brought.2 right in
-    let e = c.put-all-in-PutHolidays.ensures in
+    let counted = right_as (g.M.Users.Table.high c.args.tables.now.users) m (command.PutHolidays, es) brought.2 right in
+    let e = c.put_all-in-PutHolidays.ensures in
     done_as m (command.PutHolidays, es) brought.2 (record { users = unchanged _; time_sets = unchanged _; zones = unchanged _; groups = unchanged _; holidays = record { low = e.low; high = e.high; map = e.map es brought.1 counted.2 }; log_is = refl })
 
 pub returns-in-Some : goal.returns-in-Some
 returns-in-Some g c = λ m brings right.
     let u = c.in-RegisterUser.new in
-    let t = g.Users.Table in
+    let t = g.M.Users.Table in
     let was = c.args.tables.now.users in
     let brought = brings_as c.args.order.now (order.RegisterUser u) c.args.bytes.now m c.in-RegisterUser.is brings in
     let e = brought.0 in
     let may = right_as (t.high was) m (command.RegisterUser, (u.overwrite, e)) brought.2 right in
-    let found = c.user.ensures.all e brought.1 (ap (λ l. user_may_have l e.number) c.last-last-user.ensures ∙ may) in
+    let found = c.user.ensures.all e brought.1 (ap (λ l. user_may_have l e.number) c.last-last_user.ensures ∙ may) in
     let same = same_some c.user.result c.in-Some.user e c.in-Some.is found in
     let put = c.put.ensures in
     done_as m (command.RegisterUser, (u.overwrite, e)) brought.2 (record { users = record { low = put.low; high = put.high; map = λ n. put.map n ∙ ap (λ x. putting (t.low was) (t.high was) (t.at was) x n) same }; time_sets = unchanged _; zones = unchanged _; groups = unchanged _; holidays = unchanged _; log_is = refl })
 
-pub returns-in-default : goal.returns-in-default
-returns-in-default g c = λ m brings right.
+pub returns-in_default : goal.returns-in_default
+returns-in_default g c = λ m brings right.
     let u = c.in-RegisterUser.new in
     let brought = brings_as c.args.order.now (order.RegisterUser u) c.args.bytes.now m c.in-RegisterUser.is brings in
     let e = brought.0 in
-    let may = right_as (g.Users.Table.high c.args.tables.now.users) m (command.RegisterUser, (u.overwrite, e)) brought.2 right in
-    let found = c.user.ensures.all e brought.1 (ap (λ l. user_may_have l e.number) c.last-last-user.ensures ∙ may) in
-    absurd (none_some e (sym c.in-default.is ∙ found))
+    let may = right_as (g.M.Users.Table.high c.args.tables.now.users) m (command.RegisterUser, (u.overwrite, e)) brought.2 right in
+    let found = c.user.ensures.all e brought.1 (ap (λ l. user_may_have l e.number) c.last-last_user.ensures ∙ may) in
+    absurd (none_some e (sym c.in_default.is ∙ found))

@@ -3,11 +3,11 @@ use Rattle.execution.proofs.Every.{nth_is, nth_there}
 use Rattle.execution.proofs.Puts.{put_more}
 use Rattle.execution.proofs.putting.put_all.Goals as goal
 
-pub returns-in-default : goal.returns-in-default
-returns-in-default g c =
+pub returns-in_default : goal.returns-in_default
+returns-in_default g c =
     let inv = c.loop-turn.invariant in
     record {
-      map = λ es lies right. absurd (nth_there es c.loop-turn.turn (omega (arith, lies.0, c.loop-turn-test.true)) (sym (c.record.ensures.all es lies right) ∙ c.in-default.is));
+      map = λ es lies right. absurd (nth_there es c.loop-turn.turn (omega (arith, lies.0, c.loop-turn-test.true)) (sym (c.record.ensures.all es lies right) ∙ c.in_default.is));
       low = inv.1;
       high = inv.2;
     }
