@@ -35,17 +35,19 @@ fn a_thousand_and_one(rt: HostRuntime) -> Result<(), Fail> {
     assert_eq!(rt; log.write(&mut out), Some(32000));
     assert_eq!(rt;
         &out[0..32],
-        &[
+        [
             59, 30, 17, 29, 2, 24, 2, 1, 0x16, 8, 1, 2, 3, 4, 0, 0, 0, 1, 0, 0, 0, 0, 0, 0, 0, 2,
             0, 0, 0, 0, 0, 0,
         ]
+        .as_slice()
     );
     assert_eq!(rt;
         &out[31968..32001],
-        &[
+        [
             59, 30, 17, 29, 2, 24, 2, 1, 0x16, 8, 1, 2, 3, 4, 0, 0, 3, 0xE8, 0, 0, 0, 0, 0, 0, 3,
             0xE9, 0, 0, 0, 0, 0, 0, 0xEE,
         ]
+        .as_slice()
     );
     log.clear();
     assert_eq!(rt; log.count(), 0);

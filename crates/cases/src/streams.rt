@@ -33,10 +33,16 @@ fn ready_at(heap: Global, bytes: &[u8], step: usize) -> Result<Vec<usize>, Alloc
 }
 
 // The same places whatever the pieces are.
-fn check_ready(rt: &impl Abort, heap: Global, bytes: &[u8], ends: &[usize]) -> Result<(), Fail> {
+fn check_ready(
+    rt: &impl Abort,
+    heap: Global,
+    bytes: &[u8],
+    ends: &[usize],
+    what: &str,
+) -> Result<(), Fail> {
     for step in [1, 2, 7, 11, 5000] {
         let found = ready_at(heap, bytes, step)?;
-        assert_eq!(rt; found.as_slice(), ends);
+        assert_eq!(rt; found.as_slice(), ends, "{what}");
     }
     Ok(())
 }
@@ -47,7 +53,7 @@ fn a_whole_frame(rt: HostRuntime) -> Result<(), Fail> {
     match line.feed(&COUNT_USERS) {
         Fed::Waiting(_, _) => Err(Fail::new("no order is ready")),
         Fed::Ready(holding, pending, taken) => {
-            let same = holding.frame() == &COUNT_USERS;
+            let same = holding.frame() == COUNT_USERS.as_slice();
             let right = frame::ends_right(holding.frame())
                 && frame::checksum_right(holding.frame());
             let _line = holding.withdraw(pending);
@@ -63,21 +69,33 @@ fn streams(rt: HostRuntime) -> Result<(), Fail> {
     let heap = rt.alloc();
     let mut bytes = Vec::new(heap);
     bytes.extend_from_slice(&COUNT_USERS)?;
-    check_ready(&rt, heap, &bytes, &[11]).note("a frame")?;
+    check_ready(&rt, heap, &bytes, &[11], "a frame")?;
     bytes.extend_from_slice(&COUNT_USERS)?;
-    check_ready(&rt, heap, &bytes, &[11, 22]).note("twice in one piece")?;
+    check_ready(&rt, heap, &bytes, &[11, 22], "twice in one piece")?;
     bytes.extend_from_slice(&FOR_ANOTHER)?;
     bytes.extend_from_slice(&COUNT_USERS)?;
-    check_ready(&rt, heap, &bytes, &[11, 22, 44]).note("a frame for another TID between")?;
+    check_ready(
+        &rt,
+        heap,
+        &bytes,
+        &[11, 22, 44],
+        "a frame for another TID between",
+    )?;
     bytes.clear();
     bytes.extend_from_slice(&[0xFF, 3, 4, 7, 5, 7, 7])?;
     bytes.extend_from_slice(&COUNT_USERS)?;
-    check_ready(&rt, heap, &bytes, &[18]).note("after noise and two 07")?;
+    check_ready(&rt, heap, &bytes, &[18], "after noise and two 07")?;
     bytes.clear();
     bytes.extend_from_slice(&[7, 3])?;
     bytes.extend_from_slice(&COUNT_USERS)?;
     bytes.extend_from_slice(&COUNT_USERS)?;
-    check_ready(&rt, heap, &bytes, &[24]).note("07 03 07 03 is a LENGTH out of range")
+    check_ready(
+        &rt,
+        heap,
+        &bytes,
+        &[24],
+        "07 03 07 03 is a LENGTH out of range",
+    )
 }
 
 #[test]
@@ -94,7 +112,7 @@ fn limits_of_length(rt: HostRuntime) -> Result<(), Fail> {
                 bytes.push(7)?;
             }
         }
-        check_ready(&rt, heap, &bytes, &[ready])?;
+        check_ready(&rt, heap, &bytes, &[ready], "a LENGTH at a limit")?;
     }
     Ok(())
 }
