@@ -1,6 +1,6 @@
 -- The day after a date: it is real, one day later, and of the following weekday.
 use Rattle.std.proofs.Common.{◌≡◌, ℕ, zero, suc, ◌+◌, ◌-◌, ◌*◌, ◌/◌, ◌%◌, ◌<◌, ◌≤◌, Bool, true, false, cond, ◌&&◌, eqb, ltb, leb, List, [], ◌∷◌, length, get_or, take, IfSome, Some, None, sum, Option, sym, refl, ap, ◌∙◌, subst, ⊎_elim, arith, MatchOption}
-use Rattle.std.specs.List.{AllByRecursion as All}
+use Rattle.std.specs.List.{AllByRecursion}
 use Rattle.std.proofs.ByRecursion.{All-get_or}
 use Rattle.std.proofs.lemmas.List.Sums.{sum_by_more}
 use Rattle.std.proofs.lemmas.Bool.{true≢false, and_parts, and_from, leb-true, le-leb, lt-ltb, le-ltb, cases_lt}
@@ -61,7 +61,7 @@ february : (b : Bool) → AMonth (cond b 29 28)
 february true = (omega arith, omega arith)
 february false = (omega arith, omega arith)
 
-all_months : (y : ℕ) → All AMonth (month_lengths y)
+all_months : (y : ℕ) → AllByRecursion AMonth (month_lengths y)
 all_months y =
     let long : AMonth 31 = (omega arith, omega arith) in
     let short : AMonth 30 = (omega arith, omega arith) in

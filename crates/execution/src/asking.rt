@@ -1,6 +1,6 @@
 // The questions that ask the tables, once a frame alone has been asked.
 ghost use Rattle.std.specs.Prelude.{◌≡◌, true, List};
-ghost use Rattle.std.specs.List.{AllByRecursion as All};
+ghost use Rattle.std.specs.List.{AllByRecursion};
 ghost use Rattle.tables.specs.declared.entry.Entry.{Entry};
 ghost use Rattle.records.specs.declared.user.User.{User as Person};
 ghost use Rattle.records.specs.Users.{user_may_have};
@@ -27,7 +27,7 @@ fn all_named<R: Record + Naming + Drop, T: Table>(
     place: &Place,
     bytes: &[u8],
 ) -> bool
-    ensures { (es : List (Entry R)) → Lies R.Record.encoded R.Record.long place.now bytes.now es → All (λ e. R.Record.numbers last_user e.number ≡ true) es → result ≡ every (λ e. all_there (T.Table.at table.now) (R.Naming.names e.body)) es }
+    ensures { (es : List (Entry R)) → Lies R.Record.encoded R.Record.long place.now bytes.now es → AllByRecursion (λ e. R.Record.numbers last_user e.number ≡ true) es → result ≡ every (λ e. all_there (T.Table.at table.now) (R.Naming.names e.body)) es }
 {
     for turn in 0..place.count {
         let Some(item) = place.record::<R>(last_user, bytes, turn) else {

@@ -1,6 +1,6 @@
 // Putting the records of an order into a table.
 ghost use Rattle.std.specs.Prelude.{◌≡◌, ℕ, true, List};
-ghost use Rattle.std.specs.List.{AllByRecursion as All};
+ghost use Rattle.std.specs.List.{AllByRecursion};
 ghost use Rattle.tables.specs.declared.entry.Entry.{Entry};
 ghost use Rattle.tables.specs.Replays.{replay};
 ghost use Rattle.orders.specs.Orders.{Lies};
@@ -17,7 +17,7 @@ pub(crate) fn put_all<R: Record + Drop, T: Table<Body = R>>(
     place: &Place,
     bytes: &[u8],
 )
-    ensures map { (es : List (Entry R)) → Lies R.Record.encoded R.Record.long place.now bytes.now es → All (λ e. R.Record.numbers last_user e.number ≡ true) es → (n : ℕ) → T.Table.at table.new n ≡ replay (T.Table.low table.old) (T.Table.high table.old) (T.Table.at table.old) (puts es) n }
+    ensures map { (es : List (Entry R)) → Lies R.Record.encoded R.Record.long place.now bytes.now es → AllByRecursion (λ e. R.Record.numbers last_user e.number ≡ true) es → (n : ℕ) → T.Table.at table.new n ≡ replay (T.Table.low table.old) (T.Table.high table.old) (T.Table.at table.old) (puts es) n }
     ensures low { T.Table.low table.new ≡ T.Table.low table.old }
     ensures high { T.Table.high table.new ≡ T.Table.high table.old }
 {

@@ -1,7 +1,7 @@
 -- A frame that comes byte by byte.
 use Rattle.std.proofs.Common.{◌≡◌, ℕ, ◌+◌, ◌-◌, ◌<◌, ◌≤◌, true, false, cond, eqb, ltb, leb, List, [], ◌∷◌, ◌++◌, length, get_or, take, drop, sym, refl, ap, ◌∙◌, subst, ⊎_elim, arith}
 use Rattle.std.specs.Int.Digits.{number_from_digits}
-use Rattle.std.specs.List.{between, AllByRecursion as All}
+use Rattle.std.specs.List.{between, AllByRecursion}
 use Rattle.std.proofs.lemmas.List.{append-nil, append_assoc, length-append, length-drop, take-append-le, drop-append-le, get_or_append_left}
 use Rattle.std.proofs.lemmas.Bool.{lt-ltb, le-ltb, le-leb, lt-leb, eq-eqb, ne_eqb, cases_lt}
 use Rattle.line.specs.Frame.{Whole, shortest, longest, frame_length, frame_tid}
@@ -97,7 +97,7 @@ other_passed_over tid other f differs w =
     let none = hears_none tid [] in
     ap (hears tid []) (sym (append-nil f)) ∙ end_heard tid other f w [] f [] (listening []) refl (omega (arith, w.long_enough)) came ∙ same_heard (omega (arith, ap (λ (h : Heard). h.taken) none)) (ap (λ (h : Heard). h.state) none)
 
-pub noise_passed_over : (tid : ℕ) (p : List ℕ) → All (λ b. b ≡ 7 → ⊥) p → PassedOver tid p
+pub noise_passed_over : (tid : ℕ) (p : List ℕ) → AllByRecursion (λ b. b ≡ 7 → ⊥) p → PassedOver tid p
 noise_passed_over tid [] none = hears_none tid []
 noise_passed_over tid (b ∷ p) none =
     hears_more tid [] b p ∙ ap (λ s. goes_on s (λ v. hears tid v p)) (ap (judged tid) (ap (λ t. cond t (b ∷ []) []) (ne_eqb b 7 none.0))) ∙ ap one_more (noise_passed_over tid p none.1) ∙ same_heard (omega arith) refl

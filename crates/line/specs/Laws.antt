@@ -1,6 +1,6 @@
 -- What the line rule means, whatever the pieces are in which bytes come.
 use Rattle.std.specs.Prelude.{◌≡◌, ℕ, ◌+◌, ◌<◌, ◌≤◌, List, [], ◌∷◌, ◌++◌, length, take, ◌≢◌, slice_index}
-use Rattle.std.specs.List.{flat_map, AllByRecursion as All}
+use Rattle.std.specs.List.{flat_map, AllByRecursion}
 use Rattle.line.specs.Frame.{Whole, shortest, longest, frame_length}
 use Rattle.line.specs.Rule.{State, listening, holding, Heard, hears}
 
@@ -53,6 +53,6 @@ pub record LineLaws (tid : ℕ) : Type 0 where
   pub all_read : AllRead tid
   pub ready_at_last_byte : (f : List ℕ) → Whole tid f → ReadyAtLastByte tid f
   pub other_passed_over : (other : ℕ) (f : List ℕ) → (other ≢ tid) → Whole other f → PassedOver tid f
-  pub noise_passed_over : (p : List ℕ) → All (λ b. b ≢ 7) p → PassedOver tid p
+  pub noise_passed_over : (p : List ℕ) → AllByRecursion (λ b. b ≢ 7) p → PassedOver tid p
   pub still_begun : (u p v : List ℕ) → Begun u → (hears tid u p).state ≡ listening v → Begun v
   pub only_frames : (u p f : List ℕ) → Begun u → (hears tid u p).state ≡ holding f → FrameHeard tid u p f

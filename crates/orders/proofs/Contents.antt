@@ -1,7 +1,7 @@
 -- The bytes of what a command takes: as many as its body has, in range, and no two alike.
 use Rattle.std.proofs.Common.{◌≡◌, ℕ, zero, suc, ◌+◌, ◌*◌, ◌<◌, ◌≤◌, Bool, true, false, ◌&&◌, eqb, leb, List, [], ◌∷◌, ◌++◌, length, get_or, take, drop, sym, refl, ap, ◌∙◌, subst, mul-zero, mul-suc, arith}
 use Rattle.std.specs.Int.Digits.{number_from_digits}
-use Rattle.std.specs.List.{flat_map, AllByRecursion as All}
+use Rattle.std.specs.List.{flat_map, AllByRecursion}
 use Rattle.std.proofs.ByRecursion.{All-weaker}
 use Rattle.std.proofs.lemmas.List.{length-append, take_at, drop_at}
 use Rattle.std.proofs.lemmas.Bool.{eq-eqb, le-leb, and_from, and_parts}
@@ -30,7 +30,7 @@ joined_sized encoded size sized [] = sym (mul-zero size)
 joined_sized encoded size sized (e ∷ es) =
     length-append (encoded e) (flat_map encoded es) ∙ (λ i. sized e i + joined_sized encoded size sized es i) ∙ sym (omega (arith, mul-suc size (length es)))
 
-all_in_range : {B : Type 0} (encoded : Entry B → List ℕ) (size : ℕ) (ranges : List ℕ → Bool) → ((e : Entry B) → length (encoded e) ≡ size) → (es : List (Entry B)) → All (λ e. ranges (encoded e) ≡ true) es → every_record ranges size (length es) (flat_map encoded es) ≡ true
+all_in_range : {B : Type 0} (encoded : Entry B → List ℕ) (size : ℕ) (ranges : List ℕ → Bool) → ((e : Entry B) → length (encoded e) ≡ size) → (es : List (Entry B)) → AllByRecursion (λ e. ranges (encoded e) ≡ true) es → every_record ranges size (length es) (flat_map encoded es) ≡ true
 all_in_range encoded size ranges sized [] right = refl
 all_in_range encoded size ranges sized (e ∷ es) right =
     and_from _ _ (ap ranges (take_at (encoded e) (flat_map encoded es) size (sized e)) ∙ right.0)

@@ -1,7 +1,7 @@
 -- The records that lie at a place, one by one.
 use Rattle.std.proofs.Common.{◌≡◌, ℕ, zero, suc, ◌+◌, ◌*◌, ◌<◌, ◌≤◌, Bool, true, false, List, [], ◌∷◌, ◌++◌, length, get_or, take, drop, IfOk, Some, None, Ok, Err, Option, Result, sym, refl, ap, ◌∙◌, subst, ⊎_elim, mul-le-mul_left, mul-zero, mul-suc, arith}
 use Rattle.std.specs.Result.{result_ok}
-use Rattle.std.specs.List.{flat_map, AllByRecursion as All, slice_get}
+use Rattle.std.specs.List.{flat_map, AllByRecursion, slice_get}
 use Rattle.std.proofs.lemmas.List.{append_assoc, length-append, length-drop, length-take, length-take-le, take_at, drop_at, drop-drop, take-append-drop}
 use Rattle.std.proofs.lemmas.Option.{slice_get_past}
 use Rattle.std.proofs.lemmas.Bool.{true≢false, false≢true, cases_lt}
@@ -26,7 +26,7 @@ module _ {B : Type 0} (encoded : Entry B → List ℕ) (size : ℕ) (ranges : Li
 
   module _ (sized : (e : Entry B) → length (encoded e) ≡ size) where
     -- the record of a turn among records that lie one behind the other
-    turn_of : (P : Entry B → Type 0) (es : List (Entry B)) (rest : List ℕ) (k : ℕ) → k < length es → All P es → (e : Entry B) × (slice_get es k ≡ Some e) × (take size (drop (size * k) (flat_map encoded es ++ rest)) ≡ encoded e) × P e
+    turn_of : (P : Entry B → Type 0) (es : List (Entry B)) (rest : List ℕ) (k : ℕ) → k < length es → AllByRecursion P es → (e : Entry B) × (slice_get es k ≡ Some e) × (take size (drop (size * k) (flat_map encoded es ++ rest)) ≡ encoded e) × P e
     turn_of P [] rest k within all = absurd (omega arith)
     turn_of P (e ∷ es) rest zero within all =
         (e, refl, ap (λ n. take size (drop n ((encoded e ++ flat_map encoded es) ++ rest))) (mul-zero size) ∙ ap (take size) (append_assoc (encoded e) (flat_map encoded es) rest) ∙ take_at (encoded e) (flat_map encoded es ++ rest) size (sized e), all.0)
@@ -35,7 +35,7 @@ module _ {B : Type 0} (encoded : Entry B → List ℕ) (size : ℕ) (ranges : Li
         let step : size * suc k ≡ size + size * k = omega (arith, mul-suc size k) in
         (on.0, on.1, ap (λ n. take size (drop n ((encoded e ++ flat_map encoded es) ++ rest))) step ∙ ap (take size) (sym (drop-drop (size * k) size ((encoded e ++ flat_map encoded es) ++ rest)) ∙ ap (λ l. drop (size * k) (drop size l)) (append_assoc (encoded e) (flat_map encoded es) rest) ∙ ap (drop (size * k)) (drop_at (encoded e) (flat_map encoded es ++ rest) size (sized e))) ∙ on.2, on.3)
 
-    lies_at : (P : Entry B → Type 0) (p : Place) (bs : List ℕ) (k : ℕ) (es : List (Entry B)) → Lies encoded size p bs es → k < length es → All P es → (e : Entry B) × (slice_get es k ≡ Some e) × (record_bytes size p bs k ≡ encoded e) × P e
+    lies_at : (P : Entry B → Type 0) (p : Place) (bs : List ℕ) (k : ℕ) (es : List (Entry B)) → Lies encoded size p bs es → k < length es → AllByRecursion P es → (e : Entry B) × (slice_get es k ≡ Some e) × (record_bytes size p bs k ≡ encoded e) × P e
     lies_at P p bs k es lies within all =
         let behind = drop p.start bs in
         let n = size * p.count in

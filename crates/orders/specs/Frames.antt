@@ -1,6 +1,6 @@
 -- The frame of an order: 07, 03, LENGTH (four), TID (two), COMMAND, the body, a checksum over all before it, and 04.
 use Rattle.std.specs.Prelude.{◌≡◌, ℕ, ◌+◌, ◌^◌, ◌<◌, ◌≤◌, Bool, true, false, List, [], ◌∷◌, ◌++◌, length, drop}
-use Rattle.std.specs.List.{flat_map, AllByRecursion as All}
+use Rattle.std.specs.List.{flat_map, AllByRecursion}
 use Rattle.tables.specs.declared.entry.Entry.{Entry}
 use Rattle.records.specs.Groups.{group_number, group_bytes}
 use Rattle.records.specs.Holidays.{holiday_number, holiday_bytes}
@@ -40,7 +40,7 @@ frame_bytes tid m =
 
 -- one record at least, as many as a byte can count, each under a number of its table
 abbrev pub CountedRight : {B : Type 0} → (ℕ → Bool) → List (Entry B) → Type 0
-CountedRight number_right es = (1 ≤ length es) × (length es ≤ 255) × All (λ e. number_right e.number ≡ true) es
+CountedRight number_right es = (1 ≤ length es) × (length es ≤ 255) × AllByRecursion (λ e. number_right e.number ≡ true) es
 
 -- what a command takes is in range; last is the last number of the user table
 abbrev pub ContentRight : ℕ → (t : Takes) → Content t → Type 0

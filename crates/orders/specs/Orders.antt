@@ -1,6 +1,6 @@
 -- What an order of the code means, with the bytes beside it in which its records lie.
 use Rattle.std.specs.Prelude.{◌≡◌, ℕ, ◌+◌, ◌*◌, ◌<◌, ◌≤◌, Bool, true, false, List, ◌++◌, length, take, drop, Some, None, Option}
-use Rattle.std.specs.List.{flat_map, AllByRecursion as All, slice_get}
+use Rattle.std.specs.List.{flat_map, AllByRecursion, slice_get}
 use Rattle.tables.specs.declared.entry.Entry.{Entry}
 use Rattle.records.specs.declared.group.Group.{Group}
 use Rattle.records.specs.declared.holiday.Holiday.{Holiday}
@@ -67,7 +67,7 @@ Finds encoded size ranges numbers p bs k None = k < p.count → p.start + size *
 
 -- where records lie at the place, each under a number that it may have, these are found
 abbrev pub FindsAll : {B : Type 0} → (Entry B → List ℕ) → ℕ → (ℕ → Bool) → Place → List ℕ → ℕ → Option (Entry B) → Type 0
-FindsAll {B} encoded size numbers p bs k r = (es : List (Entry B)) → Lies encoded size p bs es → All (λ e. numbers e.number ≡ true) es → r ≡ slice_get es k
+FindsAll {B} encoded size numbers p bs k r = (es : List (Entry B)) → Lies encoded size p bs es → AllByRecursion (λ e. numbers e.number ≡ true) es → r ≡ slice_get es k
 
 -- the number is the order's own, and the bytes behind it lie at the place
 abbrev pub LiesBehind : NewUser → List ℕ → Entry User → Type 0

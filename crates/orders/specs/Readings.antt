@@ -1,7 +1,7 @@
 -- What a frame asks.
 use Rattle.std.specs.Prelude.{◌≡◌, ℕ, ◌≤◌, Bool, true, List, [], ◌∷◌, length, Ok, Err, Result}
 use Rattle.std.specs.Borrow.{Bor}
-use Rattle.std.specs.List.{flat_map, AllByRecursion as All}
+use Rattle.std.specs.List.{flat_map, AllByRecursion}
 use Rattle.line.specs.Frame.{Whole}
 use Rattle.tables.specs.declared.entry.Entry.{Entry}
 use Rattle.records.specs.declared.user.User.{User}
@@ -31,7 +31,7 @@ pub record EntriesRead {B : Type 0} (encoded : Entry B → List ℕ) (numbers : 
   pub entries : List (Entry B)
   pub many : length entries ≡ n
   pub bytes : flat_map encoded entries ≡ bs
-  pub in_range : All (λ e. numbers e.number ≡ true) entries
+  pub in_range : AllByRecursion (λ e. numbers e.number ≡ true) entries
 
 -- a counted body with its records
 pub record CountedRead {B : Type 0} (encoded : Entry B → List ℕ) (size : ℕ) (numbers : ℕ → Bool) (body : List ℕ) (p : Place) : Type 0 where
@@ -40,7 +40,7 @@ pub record CountedRead {B : Type 0} (encoded : Entry B → List ℕ) (size : ℕ
   pub bytes : length entries ∷ flat_map encoded entries ≡ body
   pub some : 1 ≤ length entries
   pub few : length entries ≤ 255
-  pub in_range : All (λ e. numbers e.number ≡ true) entries
+  pub in_range : AllByRecursion (λ e. numbers e.number ≡ true) entries
 
 -- a number that a body is, and that is right
 abbrev pub NumberRead : (ℕ → Bool) → List ℕ → ℕ → Type 0

@@ -1,5 +1,5 @@
 // A user, to and from its bytes.
-ghost use Rattle.std.specs.Prelude.{◌≡◌, ◌^◌, ◌<◌, ◌≤◌, true, false, ◌++◌, length, IfOk, MatchResult, nat_le, slice_index};
+ghost use Rattle.std.specs.Prelude.{◌&&◌, ◌≡◌, ◌^◌, ◌<◌, ◌≤◌, true, false, ◌++◌, length, IfOk, MatchResult, nat_le, slice_index};
 ghost use Rattle.records.specs.declared.record.Misfit.TheVariants.{Range};
 ghost use Rattle.records.specs.Codec.{Reads};
 ghost use Rattle.records.specs.Decoding.{user_of};
@@ -165,7 +165,7 @@ impl Record for User {
 
     ghost holds = { four_bytes_hold };
 
-    ghost numbers = { user_may_have };
+    ghost numbers = { λ last n. user_number last n && four_bytes_hold n };
 
     ghost some_bytes = { omega arith };
 

@@ -1,7 +1,7 @@
 -- What the loops of `hex` keep, and the laws of reading and printing.
 use Rattle.std.proofs.Common.{◌≡◌, ℕ, ◌+◌, ◌*◌, ◌/◌, ◌%◌, ◌<◌, ◌≤◌, Bool, true, false, eqb, List, [], ◌∷◌, ◌++◌, length, get_or, drop, Some, None, Ok, Err, Option, Result, sym, refl, ap, ◌∙◌, append_assoc, arith}
 use Rattle.std.specs.Char.{to_ascii_uppercase}
-use Rattle.std.specs.List.{AllByRecursion as All}
+use Rattle.std.specs.List.{AllByRecursion}
 use Rattle.std.proofs.lemmas.List.{at_drop_more, at_drop_all}
 use Rattle.std.proofs.lemmas.Bool.Decides.{nat_tests}
 use Rattle.script.specs.declared.hex.HexFault.{HexFault}
@@ -61,7 +61,7 @@ ok_onto b (Err x) bs e = let z : ◌≡◌ {A = ℕ} 0 1 = cc in absurd (omega a
 -- what is read of a text, after a first digit or none
 record Read (first : Option ℕ) (t bs : List ℕ) : Type 0 where
   text : hex_text bs ≡ shown first (normal t)
-  small : All (λ b. b < 256) bs
+  small : AllByRecursion (λ b. b < 256) bs
 
 never_ok : {e : HexFault} {bs : List ℕ} → Err e ≡ Ok bs → ⊥
 never_ok h = let z : ◌≡◌ {A = ℕ} 0 1 = cc in omega arith

@@ -1,6 +1,6 @@
 -- The laws between reading and printing.
 use Rattle.std.specs.Prelude.{◌≡◌, ℕ, ◌^◌, ◌<◌, List, length, Some, Ok}
-use Rattle.std.specs.List.{AllByRecursion as All}
+use Rattle.std.specs.List.{AllByRecursion}
 use Rattle.script.specs.declared.entries.Setup.{Setup}
 use Rattle.script.specs.declared.entries.Showing.{Showing}
 use Rattle.script.specs.Entries.{Said, setup, send, withdraw, reply, show, event, refused}
@@ -8,7 +8,7 @@ use Rattle.script.specs.Printing.{print_said}
 use Rattle.script.specs.Reading.{read_line}
 
 abbrev pub Bytes : List ℕ → Type 0
-Bytes bs = All (λ b. b < 256) bs
+Bytes bs = AllByRecursion (λ b. b < 256) bs
 
 pub record SetupFits (s : Setup) : Type 0 where
   pub tid : s.tid < 2 ^ 16

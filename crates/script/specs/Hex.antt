@@ -2,7 +2,7 @@
 use Rattle.std.specs.Prelude.{◌≡◌, ℕ, ◌+◌, ◌-◌, ◌*◌, ◌/◌, ◌%◌, ◌<◌, Bool, cond, not, List, [], ◌∷◌, map, Some, None, Ok, Err, filter, Option, Result, ◌==◌, nat_lt}
 use Rattle.std.specs.Int.{is_in_range}
 use Rattle.std.specs.Char.{to_ascii_uppercase}
-use Rattle.std.specs.List.{AllByRecursion as All}
+use Rattle.std.specs.List.{AllByRecursion}
 use Rattle.script.specs.declared.hex.HexFault.{HexFault}
 use Rattle.script.specs.declared.hex.HexFault.TheVariants.{NotHex, HalfByte}
 
@@ -48,7 +48,7 @@ normal t = map to_ascii_uppercase (filter (λ c. not (c == 32)) t)
 
 -- what is printed is read back
 abbrev pub ReadsPrinted : Type 0
-ReadsPrinted = (bs : List ℕ) → All (λ b. b < 256) bs → hex_bytes (hex_text bs) ≡ Ok bs
+ReadsPrinted = (bs : List ℕ) → AllByRecursion (λ b. b < 256) bs → hex_bytes (hex_text bs) ≡ Ok bs
 
 -- what is read prints as the text in its normal form
 abbrev pub PrintsNormal : Type 0
@@ -56,4 +56,4 @@ PrintsNormal = (t bs : List ℕ) → hex_bytes t ≡ Ok bs → hex_text bs ≡ n
 
 -- what is read are bytes
 abbrev pub ReadsBytes : Type 0
-ReadsBytes = (t bs : List ℕ) → hex_bytes t ≡ Ok bs → All (λ b. b < 256) bs
+ReadsBytes = (t bs : List ℕ) → hex_bytes t ≡ Ok bs → AllByRecursion (λ b. b < 256) bs
