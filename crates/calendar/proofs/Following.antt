@@ -1,14 +1,13 @@
 -- The day after a date: it is real, one day later, and of the following weekday.
-use Rattle.std.proofs.Common.{◌≡◌, ℕ, zero, suc, ◌+◌, ◌-◌, ◌*◌, ◌/◌, ◌%◌, ◌<◌, ◌≤◌, Bool, true, false, cond, ◌&&◌, eqb, ltb, leb, List, [], ◌∷◌, length, get_or, take, IfSome, Some, None, sum, Option, sym, refl, ap, ◌∙◌, subst, ⊎_elim, arith, MatchOption}
+use Rattle.std.proofs.Common.{◌≡◌, ℕ, zero, suc, ◌+◌, ◌-◌, ◌%◌, ◌<◌, ◌≤◌, Bool, true, false, cond, ltb, [], ◌∷◌, get_or, take, IfSome, Some, None, sum, Option, sym, refl, ap, ◌∙◌, subst, ⊎_elim, arith, MatchOption}
 use Rattle.std.specs.List.{AllByRecursion}
 use Rattle.std.proofs.ByRecursion.{All-get_or}
 use Rattle.std.proofs.lemmas.List.Sums.{sum_by_more}
 use Rattle.std.proofs.lemmas.Bool.{true≢false, and_parts, and_from, leb-true, le-leb, lt-ltb, le-ltb, cases_lt}
-use Rattle.std.proofs.lemmas.Bool.Decides.{nat_tests}
 use Rattle.calendar.specs.declared.date.Date.{Date}
 use Rattle.calendar.specs.declared.week.Weekday.TheVariants.{Monday}
 use Rattle.calendar.specs.Days.{leap, year_length, month_lengths, month_length, days_of_years, day_count, real_date}
-use Rattle.calendar.specs.Dates.{day_number, weekday_of, LastDate, DateAfter, WeekdayFollows, KnownDates}
+use Rattle.calendar.specs.Dates.{day_number, LastDate, DateAfter, WeekdayFollows, KnownDates}
 use Rattle.calendar.specs.Week.{week, weekday_after, following}
 
 -- ---- what a real date's numbers are

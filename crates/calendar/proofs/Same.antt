@@ -1,5 +1,5 @@
 -- Two dates or times with the same numbers are the same: an invariant has one proof.
-use Rattle.std.proofs.Common.{◌≡◌, ℕ, suc, ◌≤◌, true}
+use Rattle.std.proofs.Common.{◌≡◌, suc, ◌≤◌, true}
 use mathlib.Core.Bool.{Bool-set}
 use mathlib.Core.HLevel.{is_prop→PathP}
 use native.Mathlib.Bridge.{le_prop}

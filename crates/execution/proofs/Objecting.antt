@@ -1,5 +1,5 @@
 -- The questions that ask the tables, tied to what an order brings.
-use Rattle.std.proofs.Common.{◌≡◌, ℕ, Bool, List, is_some, Some, None, Option, Result, sym, refl, ap, ◌∙◌, subst, Bor}
+use Rattle.std.proofs.Common.{◌≡◌, ℕ, Bool, List, is_some, Some, None, Option, Result, sym, ap, ◌∙◌, subst, Bor}
 use Rattle.std.specs.Option.{option_map}
 use Rattle.access.specs.Standing.{Standing}
 use Rattle.orders.specs.declared.order.Order.{Order}

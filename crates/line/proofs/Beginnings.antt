@@ -1,12 +1,11 @@
 -- A line that has the beginning of a frame goes on to have one, or a whole frame, of the last bytes that came.
-use Rattle.std.proofs.Common.{◌≡◌, ℕ, ◌+◌, ◌<◌, ◌≤◌, cond, eqb, ◌⊎◌, List, [], ◌∷◌, ◌++◌, length, get_or, take, sym, refl, ap, ◌∙◌, subst, inl, inr, ⊎_elim, add-one, arith}
-use Rattle.std.proofs.lemmas.List.{append-nil, append_assoc, length-append, get_or_append_left}
+use Rattle.std.proofs.Common.{◌≡◌, ℕ, ◌+◌, ◌<◌, ◌≤◌, cond, List, [], ◌∷◌, ◌++◌, length, get_or, take, sym, refl, ap, ◌∙◌, subst, ⊎_elim, add-one, arith}
+use Rattle.std.proofs.lemmas.List.{append-nil, append_assoc, length-append}
 use Rattle.std.proofs.lemmas.Bool.{eq-eqb, ne_eqb, cases_lt, cases_eq}
 use Rattle.line.specs.Frame.{Whole, shortest, longest, frame_length, frame_tid}
-use Rattle.line.specs.Rule.{Heard, State, listening, holding, kept, judged, hears, after_byte, goes_on}
+use Rattle.line.specs.Rule.{State, listening, holding, kept, judged, hears, after_byte, goes_on}
 use Rattle.line.specs.Laws.{Begun, FrameHeard}
-use Rattle.line.proofs.Hearing.{hears_none, hears_more}
-use Rattle.line.proofs.Keeping.{kept_more, kept_second, kept_anew, kept_none}
+use Rattle.line.proofs.Keeping.{kept_second, kept_anew, kept_none}
 use Rattle.line.proofs.Frames.{judged_few, judged_short, judged_whole, judged_low, judged_high, length_settled}
 
 -- the bytes kept are the last of those that came, and begin as a frame does

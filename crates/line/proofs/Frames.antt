@@ -1,14 +1,14 @@
 -- A frame that comes byte by byte.
-use Rattle.std.proofs.Common.{◌≡◌, ℕ, ◌+◌, ◌-◌, ◌<◌, ◌≤◌, true, false, cond, eqb, ltb, leb, List, [], ◌∷◌, ◌++◌, length, get_or, take, drop, sym, refl, ap, ◌∙◌, subst, ⊎_elim, arith}
+use Rattle.std.proofs.Common.{◌≡◌, ℕ, ◌+◌, ◌-◌, ◌<◌, ◌≤◌, cond, eqb, List, [], ◌∷◌, ◌++◌, length, get_or, take, drop, sym, refl, ap, ◌∙◌, ⊎_elim, arith}
 use Rattle.std.specs.Int.Digits.{number_from_digits}
-use Rattle.std.specs.List.{between, AllByRecursion}
-use Rattle.std.proofs.lemmas.List.{append-nil, append_assoc, length-append, length-drop, take-append-le, drop-append-le, get_or_append_left}
+use Rattle.std.specs.List.{AllByRecursion}
+use Rattle.std.proofs.lemmas.List.{append-nil, append_assoc, length-append, length-drop, take-append-le, drop-append-le}
 use Rattle.std.proofs.lemmas.Bool.{lt-ltb, le-ltb, le-leb, lt-leb, eq-eqb, ne_eqb, cases_lt}
 use Rattle.line.specs.Frame.{Whole, shortest, longest, frame_length, frame_tid}
 use Rattle.line.specs.Rule.{Heard, State, listening, holding, kept, judged, hears, after_byte, goes_on, one_more}
 use Rattle.line.specs.Laws.{ReadyAtLastByte, PassedOver, hears_all, all_bytes}
 use Rattle.line.proofs.Hearing.{same_heard, hears_none, hears_more}
-use Rattle.line.proofs.Keeping.{kept_more, kept_second, kept_anew}
+use Rattle.line.proofs.Keeping.{kept_second, kept_anew}
 
 -- ---- judging
 

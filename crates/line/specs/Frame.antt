@@ -1,5 +1,5 @@
 -- A frame's bytes: 07, 03, LENGTH (four), TID (two), COMMAND, the body, a checksum and 04.
-use Rattle.std.specs.Prelude.{◌≡◌, ℕ, ◌-◌, ◌%◌, ◌≤◌, Bool, true, false, ◌&&◌, List, [], ◌∷◌, length, take, sum, ◌==◌, nat_le, slice_index, slice_index_or}
+use Rattle.std.specs.Prelude.{◌≡◌, ℕ, ◌-◌, ◌%◌, ◌≤◌, Bool, ◌&&◌, List, length, take, sum, ◌==◌, nat_le, slice_index, slice_index_or}
 use Rattle.std.specs.Int.Digits.{number_from_digits}
 use Rattle.std.specs.List.{between}
 

@@ -4,7 +4,7 @@ use Rattle.line.specs.declared.feeding.Progress.{Progress}
 use Rattle.line.specs.declared.feeding.Verdict.{Verdict}
 use Rattle.line.specs.declared.feeding.Verdict.TheVariants.{Unfinished, Dropped, Whole}
 use Rattle.line.specs.Frame.{shortest, longest}
-use Rattle.line.specs.Rule.{State, Heard, listening, holding, hears}
+use Rattle.line.specs.Rule.{State, listening, holding, hears}
 
 -- what is said of the bytes v, against what the rule makes of them
 abbrev pub Judges : State → List ℕ → Verdict → Type 0

@@ -1,5 +1,5 @@
 -- The bytes of what a command takes: as many as its body has, in range, and no two alike.
-use Rattle.std.proofs.Common.{◌≡◌, ℕ, zero, suc, ◌+◌, ◌*◌, ◌<◌, ◌≤◌, Bool, true, false, ◌&&◌, eqb, leb, List, [], ◌∷◌, ◌++◌, length, get_or, take, drop, sym, refl, ap, ◌∙◌, subst, mul-zero, mul-suc, arith}
+use Rattle.std.proofs.Common.{◌≡◌, ℕ, ◌+◌, ◌*◌, Bool, true, false, eqb, leb, List, [], ◌∷◌, ◌++◌, length, get_or, take, drop, sym, refl, ap, ◌∙◌, mul-zero, mul-suc, arith}
 use Rattle.std.specs.Int.Digits.{number_from_digits}
 use Rattle.std.specs.List.{flat_map, AllByRecursion}
 use Rattle.std.proofs.ByRecursion.{All-weaker}
@@ -10,7 +10,6 @@ use Rattle.records.specs.declared.user.User.{User}
 use Rattle.records.specs.Groups.{group_bytes, group_ranges}
 use Rattle.records.specs.Holidays.{holiday_bytes, holiday_ranges}
 use Rattle.records.specs.TimeSets.{time_set_bytes, time_set_ranges}
-use Rattle.records.specs.Users.{four, user_bytes, user_ranges}
 use Rattle.records.specs.Zones.{zone_bytes, zone_ranges}
 use Rattle.records.specs.GroupBytes as group
 use Rattle.records.specs.HolidayBytes as holiday

@@ -1,17 +1,15 @@
 -- Records read one behind the other, with what was read.
-use Rattle.std.proofs.Common.{◌≡◌, ℕ, suc, ◌+◌, ◌-◌, ◌*◌, ◌<◌, ◌≤◌, Bool, true, false, not, ◌&&◌, leb, List, [], ◌∷◌, ◌++◌, length, get_or, take, drop, is_err, IfOk, Ok, Err, Result, sym, refl, ap, ◌∙◌, subst, mul-zero, mul-suc, arith}
-use borrow.Rule.Slice.PartMut.{put_mid}
-use Rattle.std.proofs.lemmas.List.{take_rest, append-nil, append_assoc, flat_map_more, length-append, length-drop, length-take-le, take_all, take_at, drop_at, drop_all}
-use Rattle.std.proofs.lemmas.Bool.{true≢false, false≢true, eqb-true, le-leb, lt-leb, and_from, and_left, and_right}
+use Rattle.std.proofs.Common.{◌≡◌, ℕ, ◌+◌, ◌*◌, ◌<◌, ◌≤◌, Bool, true, false, leb, List, [], ◌∷◌, ◌++◌, length, get_or, drop, is_err, IfOk, Ok, Err, Result, sym, refl, ap, ◌∙◌, mul-zero, arith}
+use Rattle.std.proofs.lemmas.List.{append-nil, flat_map_more, length-append, take_all}
+use Rattle.std.proofs.lemmas.Bool.{true≢false, false≢true, eqb-true, lt-leb, and_left, and_right}
 use Rattle.std.proofs.ByRecursion.{All-push}
 use Rattle.tables.specs.declared.entry.Entry.{Entry}
 use Rattle.records.specs.Codec.{Reads}
 use Rattle.records.specs.declared.record.Misfit.{Misfit}
-use Rattle.records.specs.declared.record.Misfit.TheVariants.{Size, Range}
 use Rattle.orders.specs.Readings.{EntriesRead, CountedRead}
 use Rattle.orders.specs.declared.size.BodySize.TheVariants.{Counted}
 use Rattle.orders.specs.Bodies.{long_right}
-use Rattle.orders.specs.Fields.{every_record, counted, user_of}
+use Rattle.orders.specs.Fields.{every_record, counted}
 
 -- a read that is no error found a record
 pub read_found : {B : Type 0} (long : ℕ) (encoded : Entry B → List ℕ) (ranges : List ℕ → Bool) (numbers : ℕ → Bool) (bytes : List ℕ) (r : Result (Entry B) Misfit) → Reads long encoded ranges bytes r → IfOk r (λ e. numbers e.number ≡ true) → is_err r ≡ false → (e : Entry B) × (encoded e ≡ bytes) × (ranges bytes ≡ true) × (numbers e.number ≡ true)

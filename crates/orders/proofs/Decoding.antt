@@ -1,8 +1,7 @@
 -- What a command takes comes back from its bytes.
-use Rattle.std.proofs.Common.{◌≡◌, ℕ, zero, suc, ◌+◌, ◌*◌, ◌/◌, ◌%◌, ◌^◌, ◌<◌, Bool, true, false, eqb, List, [], ◌∷◌, ◌++◌, length, get_or, take, drop, Some, None, Ok, Err, Option, Result, sym, refl, ap, ◌∙◌, arith}
+use Rattle.std.proofs.Common.{◌≡◌, ℕ, Bool, true, false, eqb, List, [], ◌∷◌, length, take, drop, Some, Ok, Err, Option, Result, refl, ap, ◌∙◌, arith}
 use Rattle.std.specs.Option.{option_map}
-use Rattle.std.specs.Int.Digits.{number_from_digits}
-use Rattle.std.specs.List.{flat_map, AllByRecursion}
+use Rattle.std.specs.List.{flat_map}
 use Rattle.std.proofs.lemmas.List.{take_at, drop_at}
 use Rattle.std.proofs.lemmas.Bool.{and_parts}
 use Rattle.tables.specs.declared.entry.Entry.{Entry}
@@ -19,7 +18,6 @@ use Rattle.records.specs.ZoneBytes as zone
 use Rattle.orders.specs.Decoding.{records_of, content_of, with_content, meaning_of_asked, meaning_of}
 use Rattle.orders.specs.Frames.{overwrite_byte, content_bytes, ContentRight}
 use Rattle.orders.specs.Meanings.{Takes, nothing, a_user_number, a_card, a_user, a_time_set_number, a_zone_number, a_group_number, a_holiday_number, time_sets, zones, groups, holidays, takes, Content, Meaning}
-use Rattle.orders.specs.Questions.{asked}
 use Rattle.orders.specs.Readings.{Asks}
 use Rattle.orders.specs.declared.refusal.Refusal.{Refusal}
 

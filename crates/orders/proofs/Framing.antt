@@ -1,9 +1,8 @@
 -- A frame asks for an order exactly when its bytes are that order's frame.
-use Rattle.std.proofs.Common.{◌≡◌, ℕ, zero, suc, ◌+◌, ◌-◌, ◌*◌, ◌/◌, ◌%◌, ◌<◌, ◌≤◌, Bool, true, false, cond, ◌&&◌, eqb, leb, List, [], ◌∷◌, ◌++◌, length, get_or, take, drop, Some, None, Ok, Err, sum, Option, Result, sym, refl, ap, ◌∙◌, subst, ⊎_elim, arith}
+use Rattle.std.proofs.Common.{◌≡◌, ℕ, zero, suc, ◌+◌, ◌-◌, ◌/◌, ◌%◌, ◌<◌, ◌≤◌, Bool, true, false, cond, ◌&&◌, leb, List, [], ◌∷◌, ◌++◌, length, get_or, take, drop, Some, None, Ok, Err, sum, Option, Result, sym, refl, ap, ◌∙◌, subst, arith}
 use Rattle.std.specs.Int.Digits.{number_from_digits}
-use Rattle.std.specs.List.{between}
-use Rattle.std.proofs.lemmas.List.{append_assoc, length-append, length-take-le, length-drop, take_at, drop_at, take-append-drop, drop_more, drop_all, get_or-append_right}
-use Rattle.std.proofs.lemmas.Bool.{true≢false, false≢true, cases_Bool, eqb-true, eq-eqb, leb-true, le-leb, and_from, and_parts}
+use Rattle.std.proofs.lemmas.List.{length-append, length-take-le, take_at, take-append-drop, drop_more, drop_all, get_or-append_right}
+use Rattle.std.proofs.lemmas.Bool.{eqb-true, eq-eqb, leb-true, le-leb, and_from, and_parts}
 use Rattle.line.specs.Frame.{shortest, ends_right, sums_right, Whole}
 use Rattle.records.specs.Users.{four}
 use Rattle.records.specs.UserBytes.{four_back}
@@ -16,7 +15,7 @@ use Rattle.orders.specs.Commands.{command_byte, command_of}
 use Rattle.orders.specs.Fields.{fields_right}
 use Rattle.orders.specs.Frames.{content_bytes, body_bytes, frame_bytes, ContentRight, Right}
 use Rattle.orders.specs.Meanings.{takes, Content, Meaning}
-use Rattle.orders.specs.Questions.{body_of, with_body, with_command, opened, with_fields, asked}
+use Rattle.orders.specs.Questions.{body_of, with_command, opened, with_fields, asked}
 use Rattle.orders.specs.Readings.{Taken, FrameLaws}
 use Rattle.orders.specs.Replies.{two, closed}
 use Rattle.orders.proofs.Contents.{content_long, content_in_range, content_apart}

@@ -1,7 +1,7 @@
 -- A user in a body that has the byte OVERWRITE behind the number.
-use Rattle.std.proofs.Common.{◌≡◌, ℕ, zero, suc, ◌+◌, ◌<◌, ◌≤◌, Bool, true, false, ◌&&◌, eqb, leb, List, [], ◌∷◌, ◌++◌, length, get_or, take, drop, is_err, IfOk, Some, None, Ok, Err, Option, Result, sym, refl, ap, ◌∙◌, subst, ⊎_elim, arith}
+use Rattle.std.proofs.Common.{◌≡◌, ℕ, zero, suc, ◌+◌, ◌≤◌, true, false, eqb, List, ◌∷◌, ◌++◌, length, get_or, take, drop, is_err, IfOk, Some, None, Ok, Err, Option, Result, sym, refl, ap, ◌∙◌, arith}
 use Rattle.std.specs.Result.{result_ok}
-use Rattle.std.proofs.lemmas.List.{length-append, length-drop, length-take, length-take-le, take_all, take-append-drop, drop_more}
+use Rattle.std.proofs.lemmas.List.{length-drop, length-take, length-take-le, take_all, take-append-drop, drop_more}
 use Rattle.std.proofs.lemmas.Bool.{true≢false, and_parts}
 use Rattle.tables.specs.declared.entry.Entry.{Entry}
 use Rattle.records.specs.declared.record.Misfit.{Misfit}

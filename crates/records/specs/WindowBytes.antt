@@ -1,12 +1,12 @@
 -- The bytes of a window.
-use Rattle.std.specs.Prelude.{◌≡◌, ℕ, ◌+◌, ◌-◌, ◌*◌, ◌≤◌, Bool, true, false, ◌&&◌, ◌||◌, List, [], ◌∷◌, ◌++◌, length, drop, slice_index, refl}
+use Rattle.std.specs.Prelude.{◌≡◌, ℕ, ◌+◌, ◌-◌, ◌*◌, ◌≤◌, true, List, ◌∷◌, ◌++◌, length, drop, slice_index, refl}
 use Rattle.std.proofs.Common.{sym, ap, subst, ◌∙◌, arith}
 use mathlib.Core.HLevel.{is_prop→PathP}
 use Rattle.std.proofs.Math.Bridge.{le_prop}
 use Rattle.std.specs.Coded.{coded_ℕ}
 use denote.Struct.Props.{≡_prop}
 use Rattle.std.specs.List.{between}
-use Rattle.std.proofs.lemmas.List.{drop_more, drop-drop, drop_all, take-append-drop, take_all, length-drop}
+use Rattle.std.proofs.lemmas.List.{drop_more, drop-drop, take-append-drop, take_all, length-drop}
 use Rattle.std.proofs.lemmas.Bool.{and_from, or_left, or_right, lt-ltb, le-leb, eq-eqb}
 use Rattle.calendar.specs.declared.date.Date.{Date}
 use Rattle.calendar.specs.declared.minute.Minute.{Minute}
@@ -14,8 +14,6 @@ use Rattle.calendar.specs.Days.{real_date, day_count, minute_of_day}
 use Rattle.calendar.specs.Dates.{minute_number}
 use Rattle.calendar.proofs.Following.{real_parts}
 use Rattle.calendar.proofs.Same.{same_date, same_time, same_minute}
-use Rattle.records.specs.declared.window.Kept.{Kept}
-use Rattle.records.specs.declared.window.Validity.{Validity}
 use Rattle.records.specs.declared.window.Window.{Window}
 use Rattle.records.specs.declared.window.Window.TheVariants.{Unused, Used}
 use Rattle.records.specs.Windows.{minute_bytes, minute_ranges, minute_said, validity_ranges, window_bytes, window_ranges}

@@ -1,17 +1,17 @@
 -- The bytes of a zone.
-use Rattle.std.specs.Prelude.{◌≡◌, ℕ, zero, suc, ◌+◌, ◌*◌, ◌<◌, ◌≤◌, true, List, [], ◌∷◌, ◌++◌, length, take, drop, slice_index, slice_index_or, refl}
-use Rattle.std.proofs.Common.{sym, ap, subst, ◌∙◌, arith}
+use Rattle.std.specs.Prelude.{◌≡◌, ℕ, ◌+◌, ◌*◌, ◌<◌, ◌≤◌, List, [], ◌∷◌, ◌++◌, length, take, drop, slice_index, slice_index_or, refl}
+use Rattle.std.proofs.Common.{sym, ap, ◌∙◌, arith}
 use mathlib.Core.HLevel.{is_prop→PathP}
 use Rattle.std.specs.Coded.{coded_ℕ}
 use borrow.Rule.Slice.PartMut.{put_mid}
 use denote.Struct.Props.{≡_prop}
 use Rattle.std.specs.List.{flat_map}
-use Rattle.std.proofs.lemmas.List.{append-nil, append_assoc, length-append, take_at, drop_at, drop_more, drop-drop, drop_all, take-append-drop, take_more, flat_map_more, nil_from_length}
+use Rattle.std.proofs.lemmas.List.{length-append, take_at, drop_at, drop_more, drop-drop, drop_all, take-append-drop, take_more, flat_map_more}
 use Rattle.std.proofs.lemmas.Slice.{take-put_mid}
 use Rattle.tables.specs.declared.entry.Entry.{Entry}
 use Rattle.records.specs.declared.row.Row.{Row}
 use Rattle.records.specs.declared.zone.Zone.{Zone}
-use Rattle.records.specs.Zones.{zone_number, sets_of, zone_bytes, zone_ranges}
+use Rattle.records.specs.Zones.{sets_of, zone_bytes}
 
 -- ---- three bytes at a place
 

@@ -1,5 +1,5 @@
 -- A zone: number, then eight rows (Monday to Sunday, holiday) of three time set numbers.
-use Rattle.std.specs.Prelude.{ℕ, Bool, ◌&&◌, List, [], ◌∷◌, nat_le, slice_index}
+use Rattle.std.specs.Prelude.{ℕ, Bool, ◌&&◌, List, ◌∷◌, nat_le, slice_index}
 use Rattle.std.specs.List.{flat_map}
 use Rattle.tables.specs.declared.entry.Entry.{Entry}
 use Rattle.records.specs.declared.row.Row.{Row}

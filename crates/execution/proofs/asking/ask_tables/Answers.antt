@@ -1,4 +1,4 @@
-use Rattle.std.proofs.Common.{is_some, sym, refl, ap, ◌∙◌, ⊎_elim}
+use Rattle.std.proofs.Common.{sym, refl, ap, ◌∙◌, ⊎_elim}
 use Rattle.access.specs.Standing.{standing}
 use Rattle.orders.specs.declared.command.Command.TheVariants as command
 use Rattle.orders.specs.declared.order.Order.TheVariants as order

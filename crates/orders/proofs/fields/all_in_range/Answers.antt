@@ -1,4 +1,4 @@
-use Rattle.std.proofs.Common.{◌≡◌, ◌-◌, ◌*◌, ◌&&◌, length, take, drop, sym, ap, ◌∙◌, arith}
+use Rattle.std.proofs.Common.{◌≡◌, ◌-◌, ◌&&◌, take, drop, sym, ap, ◌∙◌, arith}
 use Rattle.orders.specs.Fields.{every_record}
 use Rattle.orders.proofs.Ranging.{one_and_others, record_on, read_tells}
 use Rattle.orders.proofs.fields.all_in_range.Goals as goal

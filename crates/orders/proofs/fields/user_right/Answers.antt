@@ -1,4 +1,4 @@
-use Rattle.std.proofs.Common.{get_or, sym, ap, ◌∙◌, arith}
+use Rattle.std.proofs.Common.{get_or, sym, ap, ◌∙◌}
 use Rattle.std.proofs.lemmas.Bool.{le-leb}
 use Rattle.records.specs.Users.{user_bytes, user_ranges}
 use Rattle.orders.proofs.Ranging.{read_tells, both_tell, eighty_five}

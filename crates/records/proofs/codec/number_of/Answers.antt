@@ -1,4 +1,4 @@
-use Rattle.std.proofs.Common.{sym, ap, ◌∙◌, arith}
+use Rattle.std.proofs.Common.{ap, arith}
 use Rattle.std.specs.Int.Digits.{number_from_digits}
 use Rattle.records.specs.Bytes.{four_bytes}
 use Rattle.records.proofs.codec.number_of.Goals as goal

@@ -1,6 +1,6 @@
-use Rattle.std.proofs.Common.{◌≡◌, ℕ, ◌+◌, ◌*◌, ◌<◌, length, None, sym, ap, ◌∙◌, subst}
+use Rattle.std.proofs.Common.{◌+◌, ◌*◌, ◌<◌, length, None, ap, ◌∙◌, subst}
 use Rattle.std.specs.Result.{result_ok}
-use Rattle.orders.specs.Orders.{Finds, record_bytes}
+use Rattle.orders.specs.Orders.{record_bytes}
 use Rattle.orders.proofs.Places.{found_at, not_there, finds_all}
 use Rattle.orders.proofs.order.Place.record.Goals as goal
 

@@ -1,8 +1,7 @@
-use Rattle.std.proofs.Common.{◌≡◌, ℕ, ◌+◌, ◌-◌, ◌*◌, ◌&&◌, List, [], ◌++◌, length, take, drop, sym, refl, ap, ◌∙◌, subst, arith}
-use Rattle.std.proofs.lemmas.List.{append_assoc, append-nil, take-append-drop}
+use Rattle.std.proofs.Common.{◌≡◌, ◌+◌, ◌-◌, ◌&&◌, [], ◌++◌, take, drop, sym, refl, ap, ◌∙◌, arith}
+use Rattle.std.proofs.lemmas.List.{append_assoc, take-append-drop}
 use Rattle.std.proofs.lemmas.Bool.{false≢true}
 use Rattle.orders.specs.Fields.{every_record}
-use Rattle.orders.specs.Readings.{EntriesRead}
 use Rattle.orders.proofs.Ranging.{one_and_others, record_on, read_tells}
 use Rattle.orders.proofs.Counting.{read_found, none_read, one_read_more, all_done}
 use Rattle.orders.proofs.protocol.fields.all_in_range.Goals as goal

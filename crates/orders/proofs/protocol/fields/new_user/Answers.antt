@@ -1,4 +1,4 @@
-use Rattle.std.proofs.Common.{get_or, sym, refl, ap, ◌∙◌, arith}
+use Rattle.std.proofs.Common.{sym, refl, arith}
 use Rattle.std.proofs.lemmas.Bool.{and_right}
 use Rattle.orders.proofs.NewUsers.{user_found, user_not_found}
 use Rattle.orders.proofs.protocol.fields.new_user.Goals as goal
