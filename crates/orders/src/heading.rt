@@ -11,15 +11,15 @@ pub struct Heading {
 }
 
 impl Heading {
-    pub fn new(tid: u16, res: u8, command: u8, mac: [u8; 6]) -> Heading
+    pub fn new(tid: u16, outcome: u8, command: u8, mac: [u8; 6]) -> Heading
         ensures tid { result.tid ≡ tid }
-        ensures res { result.result ≡ res }
+        ensures result { result.result ≡ outcome }
         ensures command { result.command ≡ command }
         ensures mac { result.mac ≡ mac }
     {
         Heading {
             tid,
-            result: res,
+            result: outcome,
             command,
             mac,
         }
