@@ -1,6 +1,6 @@
 // A make of table with a place for each number: `get`, `put`, `remove` and `count` take constant time, and `next` and `clear` look
 // at each place that they pass.
-ghost use Rattle.std.specs.Prelude.{◌≡◌, ℕ, suc, ◌+◌, ◌-◌, ◌^◌, ◌<◌, true, false, get_or, IfOk, Some, None, vec_len, Option, MatchOption, slice_index_or, slice_set};
+ghost use Rattle.std.specs.Prelude.{◌≡◌, ℕ, suc, ◌+◌, ◌-◌, ◌^◌, ◌<◌, true, false, IfOk, Some, None, vec_len, Option, MatchOption, slice_index_or, slice_set};
 ghost use Rattle.tables.specs.declared.entry.Entry.{Entry};
 ghost use Rattle.tables.specs.Maps.{many, one, inside, start, Next, putting, put_answer};
 ghost use Rattle.tables.specs.Placed.{slot, Named};
@@ -43,7 +43,7 @@ fn empty_all<B: Drop>(places: &mut [Option<Entry<B>>])
 
 // The index of the first place from `from` on that has a record.
 fn first_full<B>(places: &[Option<Entry<B>>], from: usize) -> Option<usize>
-    ensures { Next (λ k. get_or places.now k None) from result }
+    ensures { Next (λ k. slice_index_or places.now k None) from result }
 {
     let mut i = from;
     while i < places.len() {
