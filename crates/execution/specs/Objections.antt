@@ -15,9 +15,9 @@ abbrev pub unless : Bool → Refusal → Option Refusal
 unless true e = None
 unless false e = Some e
 
-abbrev pub first_of : Option Refusal → Option Refusal → Option Refusal
-first_of (Some e) next = Some e
-first_of None next = next
+abbrev pub first_refusal : Option Refusal → Option Refusal → Option Refusal
+first_refusal (Some e) next = Some e
+first_refusal None next = next
 
 -- with the user of that number left out, somebody among the numbers below n has the card
 abbrev pub another_among : Map User → ℕ → ℕ → ℕ → Bool
@@ -34,8 +34,8 @@ objection s CountUsers x = None
 objection s QueryCard card = unless (is_some (holder s card)) NoUser
 objection s ListUsers x = None
 objection s RegisterUser x =
-    first_of (unless (all_there s.groups (groups_named x.1.body)) NoZoneOrGroup)
-    (first_of (unless (x.0 || not (is_some (s.users x.1.number))) Registered)
+    first_refusal (unless (all_there s.groups (groups_named x.1.body)) NoZoneOrGroup)
+    (first_refusal (unless (x.0 || not (is_some (s.users x.1.number))) Registered)
     (unless (not (another_has s x.1.number x.1.body.card)) CardTaken))
 objection s ReadUser n = unless (is_some (s.users n)) NoUser
 objection s PutTimeSets x = None

@@ -72,27 +72,27 @@ asked_of last tid m right =
 
 -- ---- from a frame to the order that it asks for
 
-abbrev ok_or : {A : Type 0} → A → Result A Refusal → A
-ok_or d (Ok x) = x
-ok_or d (Err e) = d
+abbrev answer_or : {A : Type 0} → A → Result A Refusal → A
+answer_or d (Ok x) = x
+answer_or d (Err e) = d
 
-abbrev is_ok : {A : Type 0} → Result A Refusal → ℕ
-is_ok (Ok x) = 1
-is_ok (Err e) = 0
+abbrev ok_count : {A : Type 0} → Result A Refusal → ℕ
+ok_count (Ok x) = 1
+ok_count (Err e) = 0
 
 cond_ok : {A : Type 0} (t : Bool) (r : Result A Refusal) (e : Refusal) (x : A) → cond t r (Err e) ≡ Ok x → (t ≡ true) × (r ≡ Ok x)
 cond_ok true r e x is = (refl, is)
-cond_ok false r e x is = let wrong : ◌≡◌ {A = ℕ} 0 1 = ap is_ok is in absurd (omega arith)
+cond_ok false r e x is = let wrong : ◌≡◌ {A = ℕ} 0 1 = ap ok_count is in absurd (omega arith)
 
 fields_ok : (last : ℕ) (r : Result (Command × List ℕ) Refusal) (p : Command × List ℕ) → with_fields last r ≡ Ok p → r ≡ Ok p
 fields_ok last (Ok q) p is = (cond_ok (fields_right last q.0 q.1) (Ok q) refusal.Range p is).1
-fields_ok last (Err e) p is = let wrong : ◌≡◌ {A = ℕ} 0 1 = ap is_ok is in absurd (omega arith)
+fields_ok last (Err e) p is = let wrong : ◌≡◌ {A = ℕ} 0 1 = ap ok_count is in absurd (omega arith)
 
 command_ok : (o : Option Command) (b : List ℕ) (c : Command) (b' : List ℕ) → with_command o b ≡ Ok (c, b') → (o ≡ Some c) × (b ≡ b')
-command_ok None b c b' is = let wrong : ◌≡◌ {A = ℕ} 0 1 = ap is_ok is in absurd (omega arith)
+command_ok None b c b' is = let wrong : ◌≡◌ {A = ℕ} 0 1 = ap ok_count is in absurd (omega arith)
 command_ok (Some d) b c b' is =
     let same = (cond_ok (long_right (size_of d) b) (Ok (d, b)) refusal.Length (c, b') is).1 in
-    (ap (λ r. Some (ok_or {A = Command × List ℕ} (d, b) r).0) same, ap (λ r. (ok_or {A = Command × List ℕ} (d, b) r).1) same)
+    (ap (λ r. Some (answer_or {A = Command × List ℕ} (d, b) r).0) same, ap (λ r. (answer_or {A = Command × List ℕ} (d, b) r).1) same)
 
 two_back : (a b tid : ℕ) → a < 256 → b < 256 → number_from_digits 256 (a ∷ b ∷ []) ≡ tid → a ∷ b ∷ [] ≡ two tid
 two_back a b tid small small' is =
