@@ -1,10 +1,12 @@
 -- The map of a list of places.
-use Rattle.std.specs.Prelude.{◌≡◌, ℕ, zero, suc, ◌+◌, ◌-◌, ◌<◌, ◌≤◌, true, false, List, [], ◌∷◌, ◌++◌, length, get_or, is_some, Some, None, Option, Vec, ◌≢◌, slice_index_or, slice_set, refl}
+use Rattle.std.specs.Prelude.{◌≡◌, ℕ, zero, suc, ◌+◌, ◌-◌, ◌<◌, ◌≤◌, true, false, List, [], ◌∷◌, ◌++◌, length, drop, take, get_or, is_some, Some, None, Option, Vec, MatchOption, ◌≢◌, slice_index_or, slice_set, refl}
+use Rattle.std.proofs.Math.Seq.{take-nil}
 use Rattle.std.proofs.Common.{sym, ap, ◌∙◌, ⊎_elim, arith}
+use Rattle.std.specs.List.{AllWithin, AppendsResults, FoldsTo, HoldsAt, slice_range}
 use Rattle.std.specs.Option.{option_map}
 use Rattle.std.specs.Vec.{with_items}
 use Rattle.std.proofs.lemmas.Bool.{both_ways, cases_eq, cases_lt, lt-ltb, le-ltb, cond-true, cond-false}
-use Rattle.std.proofs.lemmas.List.{get_or-set_same, get_or-set_other, get_or_past, with_items_is}
+use Rattle.std.proofs.lemmas.List.{get_or-take, get_or-drop, get_or-set_same, get_or-set_other, get_or_past, with_items_is}
 use Rattle.std.proofs.lemmas.Bool.Decides.{nat_tests}
 use Rattle.tables.specs.declared.entry.Entry.{Entry}
 use Rattle.tables.specs.Maps.{one, many, inside, putting, removing, Next}
@@ -115,11 +117,38 @@ module _ {B : Type 0} where
   pub many_has : (low : ℕ) (xs : List (Option (Entry B))) (at n : ℕ) → at < length xs → low + at < n → one (slice_index_or xs at None) ≤ many (slot low xs) n
   many_has low xs at n less within = omega (arith, many_set low xs at None n less within)
 
-  pub none_push : (xs : List (Option (Entry B))) → ((k : ℕ) → slice_index_or xs k None ≡ None) → (k : ℕ) → slice_index_or (xs ++ None ∷ []) k None ≡ None
-  none_push [] none zero = refl
-  none_push [] none (suc k) = refl
-  none_push (x ∷ xs) none zero = none zero
-  none_push (x ∷ xs) none (suc k) = none_push xs (λ j. none (suc j)) k
+  -- the first full place of those from `from` on
+  pub next_place : (xs : List (Option (Entry B))) (from : ℕ) (ahead : List (Option (Entry B))) (r : Option ℕ) → ahead ≡ slice_range xs from (length xs) → length ahead + from ≡ length xs → MatchOption r (AllWithin (λ o. o ≡ None) ahead 0 (length ahead)) (λ i. (i < length ahead) × HoldsAt (λ o. is_some o ≡ true) ahead i × AllWithin (λ o. o ≡ None) ahead 0 i) → Next (λ k. slice_index_or xs k None) from (option_map (λ i. from + i) r)
+  next_place xs from ahead r is long found = next r found
+    where
+      read : (k : ℕ) → k < length ahead → get_or xs (from + k) None ≡ get_or ahead k None
+      read k less = sym (ap (λ l. get_or l k None) is ∙ get_or-take (length xs - from) (drop from xs) k None (omega arith) ∙ get_or-drop from xs k None)
+
+      read_from : (n : ℕ) → from ≤ n → n < length xs → get_or xs n None ≡ get_or ahead (n - from) None
+      read_from n past less = let e : n ≡ from + (n - from) = omega arith in ap (λ (k : ℕ). get_or xs k None) e ∙ read (n - from) (omega arith)
+
+      next : (r : Option ℕ) → MatchOption r (AllWithin (λ o. o ≡ None) ahead 0 (length ahead)) (λ i. (i < length ahead) × HoldsAt (λ o. is_some o ≡ true) ahead i × AllWithin (λ o. o ≡ None) ahead 0 i) → Next (λ k. slice_index_or xs k None) from (option_map (λ i. from + i) r)
+      next None none = λ n past.
+          ⊎_elim
+          (λ (h : n < length xs). read_from n past h ∙ none (n - from) None (omega arith) (omega arith))
+          (λ (h : length xs ≤ n). get_or_past xs n None h)
+          (cases_lt n (length xs))
+      next (Some i) first = record {
+        from = omega arith;
+        there = ap is_some (read i first.0) ∙ first.1 None;
+        none_before = λ n past before. read_from n past (omega (arith, first.0)) ∙ first.2 (n - from) None (omega arith) (omega arith);
+      }
+
+  -- what a closure gives that gives none each time
+  pub none_from_calls : {F : Type 0} (step : F → Option (Entry B) → F → Type 0) (f : F) (xs : List (Option (Entry B))) → ((f : F) (x : Option (Entry B)) (h : F) → step f x h → x ≡ None) → (last : F) × FoldsTo step f xs last → (k : ℕ) → slice_index_or xs k None ≡ None
+  none_from_calls step f [] none ran k = refl
+  none_from_calls step f (x ∷ xs) none ran zero = none f x ran.1.0 ran.1.1
+  none_from_calls step f (x ∷ xs) none ran (suc k) = none_from_calls step ran.1.0 xs none (ran.0, ran.1.2) k
+
+  pub none_from_growth : {F : Type 0} (step : F → Option (Entry B) → F → Type 0) (f : F) (n : ℕ) (before xs : List (Option (Entry B))) → before ≡ [] → ((f : F) (x : Option (Entry B)) (h : F) → step f x h → x ≡ None) → AppendsResults step (take n before) xs f → (k : ℕ) → slice_index_or xs k None ≡ None
+  none_from_growth step f n before xs empty none ran k =
+      let old : take n before ≡ [] = ap (take n) empty ∙ take-nil n in
+      ap (λ (l : List (Option (Entry B))). get_or l k None) (ran.2 ∙ ap (λ l. l ++ ran.0) old) ∙ none_from_calls step f ran.0 none (ran.1, ran.3) k
 
   pub slot_none : (low : ℕ) (xs : List (Option (Entry B))) → ((k : ℕ) → slice_index_or xs k None ≡ None) → (n : ℕ) → slot low xs n ≡ None
   slot_none low xs none n =
