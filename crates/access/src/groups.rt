@@ -19,7 +19,7 @@ fn place_of(door: Door) -> u8
     ensures place { result ≡ door.number - 1 }
     ensures bound { result < 8 }
 {
-    door.number() - 1
+    u8::from(door) - 1
 }
 
 fn opens(group: &Group, door: Door) -> bool
