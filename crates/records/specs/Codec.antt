@@ -1,5 +1,5 @@
 -- What reading and writing a record comes to.
-use Rattle.std.specs.Prelude.{◌≡◌, ℕ, ◌<◌, Bool, true, false, List, ◌++◌, length, drop, Ok, Err, Result, nat_lt}
+use Rattle.std.specs.Prelude.{◌≡◌, ℕ, ◌<◌, Bool, true, false, List, ◌++◌, length, drop, Ok, Err, Result, MatchResult, nat_lt}
 use Rattle.records.specs.declared.record.Misfit.{Misfit}
 use Rattle.records.specs.declared.record.Misfit.TheVariants.{Size, Range}
 
@@ -19,3 +19,7 @@ Writes size holds bytes before after (Err Range) = (holds ≡ false) × (after �
 -- the number of most records has one byte
 abbrev pub one_byte : ℕ → Bool
 one_byte n = nat_lt n 256
+
+-- it is `right` exactly where the answer is a value, of which `told` says more; else it is the error `wrong`
+abbrev pub InRange : {A E : Type 0} → E → (A → Type 0) → Bool → Result A E → Type 0
+InRange wrong told right result = MatchResult result told (λ e. (e ≡ wrong) × (right ≡ false))

@@ -19,14 +19,16 @@ impl Group {
         self.doors
     }
 
+    pub fn zones(&self) -> &[u8; 8]
+        ensures { result.now ≡ self.now.zones }
+    {
+        &self.zones
+    }
+
     // The zone at a place, where door 1 has the place 0.
     pub fn zone(&self, place: usize) -> Option<u8>
         ensures { MatchOption result (8 ≤ place) (λ z. (place < 8) × (z ≡ slice_index self.now.zones place)) }
     {
-        if place < self.zones.len() {
-            Some(self.zones[place])
-        } else {
-            None
-        }
+        self.zones.get(place).copied()
     }
 }

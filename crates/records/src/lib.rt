@@ -8,6 +8,8 @@ pub mod groups;
 pub mod holiday;
 pub mod holidays;
 pub mod limits;
+pub mod named;
+pub mod numbered;
 pub mod record;
 pub mod row;
 pub mod time_set;
@@ -21,6 +23,8 @@ pub mod zones;
 
 pub use group::Group;
 pub use holiday::Holiday;
+pub use named::Named;
+pub use numbered::ByteNumbered;
 pub use record::{Misfit, Record};
 pub use row::Row;
 pub use time_set::TimeSet;

@@ -10,14 +10,16 @@ pub struct Zone {
 }
 
 impl Zone {
+    pub fn rows(&self) -> &[Row; 8]
+        ensures { result.now ≡ self.now.rows }
+    {
+        &self.rows
+    }
+
     // The row at a place: 0 to 6 are Monday to Sunday, 7 is the holiday row.
     pub fn row(&self, place: usize) -> Option<&Row>
         ensures { MatchOption result (8 ≤ place) (λ row. (place < 8) × ((d : Row) → row.now ≡ slice_index_or self.now.rows place d)) }
     {
-        if place < self.rows.len() {
-            Some(&self.rows[place])
-        } else {
-            None
-        }
+        self.rows.get(place)
     }
 }
