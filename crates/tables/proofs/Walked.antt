@@ -4,8 +4,12 @@ use Rattle.std.specs.Prelude.{⊤}
 use Rattle.std.specs.Iterator.{MakesProgress, YieldsFirstBy, item_count}
 use Rattle.std.specs.Option.{MatchOption, option_map, option_to_list}
 use Rattle.std.proofs.lemmas.Bool.{both_ways, cases_eq}
+use Rattle.std.proofs.lemmas.Iterator.{YieldsList}
+use Rattle.std.proofs.lemmas.Iterator.Consumers.{YieldsList-from_first}
+use Rattle.std.proofs.lemmas.List.{append-nil, append_assoc}
+use Rattle.tables.specs.declared.walk.Walk.{Walk}
 use Rattle.tables.specs.declared.entry.Entry.{Entry}
-use Rattle.tables.specs.Maps.{Map, View, one, many, count_of, Least}
+use Rattle.tables.specs.Maps.{Map, View, one, many, count_of, start, Least}
 use Rattle.tables.specs.Counts.{many_zero}
 use Rattle.tables.specs.Walks.{records_from, records_left, records_of}
 
@@ -72,3 +76,16 @@ module _ {B : Type 0} where
 pub goes_on : {S A B : Type 0} (view : A → B) (rest : S → List B) (s t : S) (r : Option A) → YieldsFirstBy view rest s r t → MakesProgress (λ _. ⊤) (item_count rest) s r t
 goes_on view rest s t None given = search rules
 goes_on view rest s t (Some x) given = let shorter = ap length given in search rules
+
+-- a walk from the start meets all records
+pub walk_meets : {T B : Type 0} (view : T → View B) (w : Walk T) (t : T) → w.table.now ≡ t → w.above ≡ None → YieldsList (YieldsFirstBy (λ (x : Bor (Entry B)). x.now) (λ (v : Walk T). records_left (view v.table.now) (start v.above))) (λ x. x.now) w (records_of (view t))
+walk_meets view w t table above = YieldsList-from_first (λ x. x.now) (λ v. records_left (view v.table.now) (start v.above)) (records_of (view t)) (λ i. records_left (view (table i)) (start (above i)))
+
+-- the record under the last number stands last
+pub records_more : {B : Type 0} (f : Map B) (a n : ℕ) → records_from f a (suc n) ≡ records_from f a n ++ option_to_list (f (a + n))
+unfolding records_from
+records_more f a zero = let e : a ≡ a + zero = omega arith in append-nil (option_to_list (f a)) ∙ ap (λ k. option_to_list (f k)) e
+records_more f a (suc n) =
+    let e : suc a + n ≡ a + suc n = omega arith in
+    ap (λ l. option_to_list (f a) ++ l) (records_more f (suc a) n ∙ ap (λ k. records_from f (suc a) n ++ option_to_list (f k)) e)
+    ∙ sym (append_assoc (option_to_list (f a)) (records_from f (suc a) n) (option_to_list (f (a + suc n))))
