@@ -1,6 +1,5 @@
 -- What the inner functions of feeding say.
-use Rattle.std.specs.Prelude.{◌≡◌, ℕ, ◌<◌, ◌≤◌, true, false, cond, List, [], length, take}
-use Rattle.line.specs.declared.feeding.Progress.{Progress}
+use Rattle.std.specs.Prelude.{◌≡◌, ℕ, ◌<◌, ◌≤◌, List, [], length, Bool, true, false, Option, Some, None}
 use Rattle.line.specs.declared.feeding.Verdict.{Verdict}
 use Rattle.line.specs.declared.feeding.Verdict.TheVariants.{Unfinished, Dropped, Whole}
 use Rattle.line.specs.Frame.{shortest, longest}
@@ -12,9 +11,12 @@ Judges s v Unfinished = (s ≡ listening v) × (length v < longest)
 Judges s v Dropped = s ≡ listening []
 Judges s v Whole = (s ≡ holding v) × (shortest ≤ length v)
 
--- where the bytes of a piece led to, with the buffer that holds what is kept
-pub record Reached (tid : ℕ) (u piece : List ℕ) (buffer : List ℕ) (p : Progress) : Type 0 where
-  pub rule : hears tid u piece ≡ record { taken = p.taken; state = cond p.whole holding listening (take p.have buffer) }
-  pub short : p.whole ≡ false → p.have < longest
-  pub long_enough : p.whole ≡ true → shortest ≤ p.have
-  pub short_enough : p.have ≤ longest
+-- the bytes v that are kept are those of the state s, which is a ready order or not
+abbrev pub Keeps : State → List ℕ → Bool → Type 0
+Keeps s v false = (s ≡ listening v) × (length v < longest)
+Keeps s v true = (s ≡ holding v) × (shortest ≤ length v) × (length v ≤ longest)
+
+-- where a piece led to, with the bytes v kept: to a ready order after so many bytes, or to none
+abbrev pub Reached : ℕ → List ℕ → List ℕ → List ℕ → Option ℕ → Type 0
+Reached tid u piece v None = (hears tid u piece ≡ record { taken = length piece; state = listening v }) × (length v < longest)
+Reached tid u piece v (Some n) = (hears tid u piece ≡ record { taken = n; state = holding v }) × (0 < n) × (n ≤ length piece) × (shortest ≤ length v) × (length v ≤ longest)
