@@ -3,7 +3,8 @@ use Rattle.std.proofs.Common.{◌≡◌, ℕ, ◌+◌, ◌-◌, ◌<◌, ◌≤�
 use Rattle.std.specs.Int.Digits.{number_from_digits}
 use Rattle.std.specs.List.{AllByRecursion}
 use Rattle.std.proofs.lemmas.List.{append-nil, append_assoc, length-append, length-drop, take-append-le, drop-append-le}
-use Rattle.std.proofs.lemmas.Bool.{lt-ltb, le-ltb, le-leb, lt-leb, eq-eqb, ne_eqb, cases_lt}
+use Rattle.std.proofs.lemmas.Bool.{eq-eqb, ne_eqb, cases_lt}
+use Rattle.std.proofs.lemmas.Bool.Decides.{nat_tests}
 use Rattle.line.specs.Frame.{Whole, shortest, longest, frame_length, frame_tid}
 use Rattle.line.specs.Rule.{Heard, State, listening, holding, kept, judged, hears, after_byte, goes_on, one_more}
 use Rattle.line.specs.Laws.{ReadyAtLastByte, PassedOver, hears_all, all_bytes}
@@ -13,21 +14,19 @@ use Rattle.line.proofs.Keeping.{kept_second, kept_anew}
 -- ---- judging
 
 pub judged_few : (tid : ℕ) (v : List ℕ) → length v < 6 → judged tid v ≡ listening v
-judged_few tid v few = rw (lt-ltb (length v) 6 few)
+judged_few tid v few = grind (arith, nat_tests)
 
 pub judged_short : (tid : ℕ) (v : List ℕ) → 6 ≤ length v → shortest ≤ frame_length v → frame_length v ≤ longest → length v < frame_length v → judged tid v ≡ listening v
-judged_short tid v enough low high short =
-    rw (le-ltb (length v) 6 enough, le-leb shortest (frame_length v) low, le-leb (frame_length v) longest high, lt-ltb (length v) (frame_length v) short)
+judged_short tid v enough low high short = grind (arith, nat_tests)
 
 pub judged_whole : (tid : ℕ) (v : List ℕ) → 6 ≤ length v → shortest ≤ frame_length v → frame_length v ≤ longest → frame_length v ≤ length v → judged tid v ≡ cond (eqb (frame_tid v) tid) (holding v) (listening [])
-judged_whole tid v enough low high long =
-    rw (le-ltb (length v) 6 enough, le-leb shortest (frame_length v) low, le-leb (frame_length v) longest high, le-ltb (length v) (frame_length v) long)
+judged_whole tid v enough low high long = grind (arith, nat_tests)
 
 pub judged_low : (tid : ℕ) (v : List ℕ) → 6 ≤ length v → frame_length v < shortest → judged tid v ≡ listening []
-judged_low tid v enough low = rw (le-ltb (length v) 6 enough, lt-leb shortest (frame_length v) low)
+judged_low tid v enough low = grind (arith, nat_tests)
 
 pub judged_high : (tid : ℕ) (v : List ℕ) → 6 ≤ length v → shortest ≤ frame_length v → longest < frame_length v → judged tid v ≡ listening []
-judged_high tid v enough low high = rw (le-ltb (length v) 6 enough, le-leb shortest (frame_length v) low, lt-leb (frame_length v) longest high)
+judged_high tid v enough low high = grind (arith, nat_tests)
 
 -- ---- LENGTH is settled with the sixth byte
 

@@ -5,7 +5,7 @@ ghost use Rattle.line.specs.Frame.{longest, frame_length, frame_tid};
 ghost use Rattle.line.specs.Rule.{kept, judged, after_byte, hears};
 ghost use Rattle.line.specs.Lines.{unfinished, ready_frame, heard, fed_tid, Taken};
 ghost use Rattle.line.specs.Laws.{LineLaws};
-ghost use Rattle.line.specs.Steps.{Judges, Keeps, Reached};
+ghost use Rattle.line.specs.Steps.{Judges, Keeps};
 
 use crate::frame::{FIRST_BYTE, LENGTH_END, LONGEST, SECOND_BYTE, SHORTEST, TID_END};
 use crate::state::{Fed, FrameBuffer, Holding, Line, Listening, PendingReply};
@@ -90,21 +90,6 @@ impl FrameBuffer {
             Verdict::Whole => true,
         }
     }
-
-    // Hears a piece up to the byte that makes an order ready, and tells how many bytes that took. With no
-    // order it is the whole piece.
-    #[tactic(auto, using(crate::proofs::Hearing::still_listening, crate::proofs::Hearing::all_heard))]
-    fn listen(&mut self, tid: u16, piece: &[u8]) -> Option<usize>
-        requires { vec_len self.old.bytes < longest }
-        ensures { Reached tid self.old.bytes.items piece.now self.new.bytes.items result }
-    {
-        for (i, byte) in piece.iter().enumerate() {
-            if self.hear(tid, *byte) {
-                return Some(i + 1);
-            }
-        }
-        None
-    }
 }
 
 impl<L> Line<L> {
@@ -134,6 +119,7 @@ impl Line<Listening> {
     }
 
     // Takes the piece up to the byte that makes an order ready, or all of it.
+    #[tactic(auto, using(crate::proofs::Hearing::still_listening, crate::proofs::Hearing::all_heard))]
     pub fn feed(self, piece: &[u8]) -> Fed
         ensures rule { heard result ≡ hears self.tid (unfinished self) piece.now }
         ensures tid { fed_tid result ≡ self.tid }
@@ -142,16 +128,14 @@ impl Line<Listening> {
     {
         let Line { tid, state } = self;
         let Listening { mut kept } = state;
-        match kept.listen(tid, piece) {
-            Some(taken) => {
+        for (i, byte) in piece.iter().enumerate() {
+            if kept.hear(tid, *byte) {
                 let state = Holding { frame: kept };
-                Fed::Ready(Line { tid, state }, PendingReply(()), taken)
-            }
-            None => {
-                let state = Listening { kept };
-                Fed::Waiting(Line { tid, state }, piece.len())
+                return Fed::Ready(Line { tid, state }, PendingReply(()), i + 1);
             }
         }
+        let state = Listening { kept };
+        Fed::Waiting(Line { tid, state }, piece.len())
     }
 }
 
