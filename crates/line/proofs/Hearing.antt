@@ -1,7 +1,7 @@
 -- A piece that is heard byte by byte.
 use Rattle.std.proofs.Common.{◌≡◌, ℕ, ◌+◌, ◌<◌, ◌≤◌, List, [], ◌∷◌, length, get_or, drop, refl, ap, ◌∙◌, arith}
 use Rattle.std.proofs.lemmas.List.{at_drop_more, at_drop_all}
-use Rattle.line.specs.Rule.{Heard, State, listening, holding, hears, after_byte, goes_on, one_more}
+use Rattle.line.specs.Rule.{Heard, State, listening, holding, hears, after_byte, goes_on}
 
 pub same_heard : {m n : ℕ} {s t : State} → m ≡ n → s ≡ t → ◌≡◌ {A = Heard} (record { taken = m; state = s }) (record { taken = n; state = t })
 same_heard p q = λ i. record { taken = p i; state = q i }

@@ -1,5 +1,5 @@
 -- Pieces do not matter, and a piece is read to its end unless an order is ready.
-use Rattle.std.proofs.Common.{◌≡◌, ℕ, ◌+◌, ◌<◌, ◌≤◌, List, [], ◌∷◌, ◌++◌, length, refl, ap, ◌∙◌, arith}
+use Rattle.std.proofs.Common.{◌≡◌, ℕ, ◌+◌, List, [], ◌∷◌, ◌++◌, length, refl, ap, ◌∙◌, arith}
 use Rattle.line.specs.Rule.{State, listening, holding, hears, after_byte, goes_on, one_more}
 use Rattle.line.specs.Laws.{heard_on, PiecesJoin, AllRead}
 use Rattle.line.proofs.Hearing.{same_heard}

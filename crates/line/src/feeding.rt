@@ -19,7 +19,7 @@ fn length_of(frame: &[u8]) -> Option<usize>
     Some(u32::from_be_bytes([a, b, c, d]) as usize)
 }
 
-// TID, once its bytes are there.
+// TID, once its bytes are there. It has a function beside LENGTH's, since `from_be_bytes` is in no trait.
 fn tid_of(frame: &[u8]) -> Option<u16>
     ensures { SomeIff result (8 ≤ length frame.now) (frame_tid frame.now) }
 {
@@ -53,7 +53,7 @@ fn judge(tid: u16, frame: &[u8]) -> Verdict
 
 impl FrameBuffer {
     pub fn new(heap: Global) -> Result<FrameBuffer, AllocError>
-        ensures { IfOk result (λ b. longest ≤ vec_capacity b.bytes) }
+        ensures { IfOk result (λ b. vec_capacity b.bytes ≡ longest) }
     {
         let bytes = Vec::with_capacity(heap, LONGEST)?;
         Ok(FrameBuffer { bytes })

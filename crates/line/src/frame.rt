@@ -7,6 +7,7 @@ pub const FIRST_BYTE: u8 = 0x07;
 pub const SECOND_BYTE: u8 = 0x03;
 
 pub const LAST_BYTE: u8 = 0x04;
+
 // LENGTH is known once these are there.
 pub const LENGTH_END: usize = 6;
 

@@ -1,13 +1,13 @@
 // The states of a line, and the memory that each of them has.
-ghost use Rattle.std.specs.Prelude.{◌<◌, ◌≤◌, vec_len, vec_capacity};
+ghost use Rattle.std.specs.Prelude.{◌≡◌, ◌<◌, ◌≤◌, vec_len, vec_capacity};
 ghost use Rattle.line.specs.Frame.{shortest, longest};
 
-// The bytes that are kept of a frame. There is room for the longest one, reserved beforehand, since no
-// call of a line allocates.
+// The bytes that are kept of a frame. Room for the longest one is reserved beforehand, since no call of a
+// line allocates.
 #[derive(Drop)]
 pub struct FrameBuffer {
     pub(crate) bytes: Vec<u8>,
-    ghost room: { longest ≤ vec_capacity bytes },
+    ghost room: { vec_capacity bytes ≡ longest },
 }
 
 // No order is ready. What is kept is the beginning of an unfinished frame.
