@@ -20,9 +20,7 @@ fn falls_on(holiday: &Holiday, date: &Date) -> bool
 pub fn is_holiday<T: Table<Body = Holiday>>(holidays: &T, date: &Date) -> bool
     ensures { result ≡ holiday_among (T.Table.view holidays.now).at (suc (T.Table.view holidays.now).high) date.now }
 {
-    holidays
-        .iter()
-        .any(|holiday| falls_on(&holiday.body, date))
+    holidays.iter().any(|holiday| falls_on(&holiday.body, date))
 }
 
 fn weekday_row(day: Weekday) -> usize

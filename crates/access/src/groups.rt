@@ -29,10 +29,7 @@ fn opens(group: &Group, door: Door) -> bool
 fn zone_for(group: &Group, door: Door) -> u8
     ensures { result ≡ zone_for door.number group.now }
 {
-    match group.zone(place_of(door) as usize) {
-        Some(zone) => zone,
-        None => 0,
-    }
+    group.zones()[usize::from(place_of(door))]
 }
 
 // Does one of the groups open the door, and does one admit at this minute?
