@@ -1,8 +1,8 @@
 -- What a list of changes makes of a table, and when two tables are the same to a user.
-use Rattle.std.specs.Prelude.{◌≡◌, ℕ, List, [], ◌∷◌, None, Option}
+use Rattle.std.specs.Prelude.{◌≡◌, ℕ, List, [], ◌∷◌, Option}
 use Rattle.tables.specs.declared.edit.Edit.{Edit}
 use Rattle.tables.specs.declared.edit.Edit.TheVariants.{Put, Remove, Clear}
-use Rattle.tables.specs.Maps.{Map, View, bare, putting, removing, count_of, start, Next}
+use Rattle.tables.specs.Maps.{View, bare, putting, removing, count_of, start, Next}
 
 module _ {B : Type 0} where
   abbrev pub edited : View B → Edit B → View B

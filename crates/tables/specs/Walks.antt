@@ -1,5 +1,5 @@
 -- The records of a table in ascending numbers.
-use Rattle.std.specs.Prelude.{ℕ, zero, suc, ◌-◌, List, [], ◌++◌, None}
+use Rattle.std.specs.Prelude.{ℕ, zero, suc, ◌-◌, List, [], ◌++◌}
 use Rattle.std.specs.Option.{option_to_list}
 use Rattle.tables.specs.declared.entry.Entry.{Entry}
 use Rattle.tables.specs.Maps.{Map, View}

@@ -1,6 +1,5 @@
 use Rattle.std.proofs.Common.{rules, tests, ◌≡◌, true, None, Some, is_some}
 use Rattle.std.proofs.lemmas.Iterator.{IsFirst-from_position, YieldsList-from_slice}
-use Rattle.tables.specs.Maps.{Next}
 use Rattle.tables.specs.Slotted.{next_place}
 use Rattle.tables.proofs.slots.first_full.Goals as goal
 

@@ -1,4 +1,4 @@
-use Rattle.std.proofs.Common.{◌≡◌, ◌∙◌, ◌⊎◌, inl, suc, length, arith}
+use Rattle.std.proofs.Common.{◌≡◌, ◌∙◌, inl, suc, length, arith}
 use Rattle.std.proofs.lemmas.Iterator.Consumers.{count_from_yields_List, YieldsList-from_first}
 use Rattle.tables.specs.Maps.{start}
 use Rattle.tables.specs.Counts.{many_le}

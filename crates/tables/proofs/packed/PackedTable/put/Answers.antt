@@ -2,7 +2,7 @@ use Rattle.std.proofs.Common.{◌≡◌, true, vec_items, vec_len, vec_capacity,
 use Rattle.std.specs.List.{insert}
 use Rattle.std.proofs.lemmas.Bool.{cond-true, and_from, le-leb, lt-ltb}
 use Rattle.tables.specs.Order.{insertable}
-use Rattle.tables.specs.Packings.{chosen, ascends_inserted, within_inserted, room_left, find_replaced, find_inserted}
+use Rattle.tables.specs.Packings.{chosen, room_left, find_replaced, find_inserted}
 use Rattle.tables.proofs.packed.PackedTable.put.Goals as goal
 
 pub returns-in-Ok-clause-change : goal.returns-in-Ok-clause-change

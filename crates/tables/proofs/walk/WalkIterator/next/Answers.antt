@@ -1,4 +1,3 @@
-use Rattle.std.proofs.Common.{rules, arith}
 use Rattle.tables.specs.Maps.{start}
 use Rattle.tables.proofs.Walked.{none_left, walk_on, goes_on}
 use Rattle.tables.proofs.walk.WalkIterator.next.Goals as goal
