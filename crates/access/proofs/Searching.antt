@@ -45,18 +45,18 @@ module _ {B : Type 0} (test : B → Bool) where
   find_from f zero = refl
   find_from f (suc n) = find_more f n ∙ ap (λ o. or_else o (kept_if test (f n))) (find_from f n)
 
-  any_more : (f : Map B) (n : ℕ) → list_any of_entry (records_from f 0 (suc n)) ≡ (list_any of_entry (records_from f 0 n) || is_some (kept_if test (f n)))
-  any_more f n =
-      let e : 0 + n ≡ n = omega arith in
-      let before = records_from f 0 n in
-      ap (list_any of_entry) (records_more f 0 n ∙ ap (λ k. before ++ option_to_list (f k)) e)
-      ∙ (list_any-append of_entry before (option_to_list (f n)) ∙ ap (λ b. list_any of_entry before || b) (any_here (f n)))
+  module _ (asked : Entry B → Bool) (f g : Map B) (each : (k : ℕ) → list_any asked (option_to_list (f k)) ≡ is_some (kept_if test (g k))) where
+    any_more : (n : ℕ) → list_any asked (records_from f 0 (suc n)) ≡ (list_any asked (records_from f 0 n) || is_some (kept_if test (g n)))
+    any_more n =
+        let e : 0 + n ≡ n = omega arith in
+        let before = records_from f 0 n in
+        ap (list_any asked) (records_more f 0 n ∙ ap (λ k. before ++ option_to_list (f k)) e)
+        ∙ (list_any-append asked before (option_to_list (f n)) ∙ ap (λ b. list_any asked before || b) (each n))
 
-  any_from : (f : Map B) (n : ℕ) → list_any of_entry (records_from f 0 n) ≡ is_some (lowest f test n)
-  unfolding records_from lowest
-  any_from f zero = refl
-  any_from f (suc n) =
-      any_more f n ∙ (ap (λ b. b || is_some (kept_if test (f n))) (any_from f n) ∙ some_or (lowest f test n) (kept_if test (f n)))
+    any_from : (n : ℕ) → list_any asked (records_from f 0 n) ≡ is_some (lowest g test n)
+    unfolding records_from lowest
+    any_from zero = refl
+    any_from (suc n) = any_more n ∙ (ap (λ b. b || is_some (kept_if test (g n))) (any_from n) ∙ some_or (lowest g test n) (kept_if test (g n)))
 
   whole : (v : View B) → suc v.high - 0 ≡ suc v.high
   whole v = omega arith
@@ -65,6 +65,9 @@ module _ {B : Type 0} (test : B → Bool) where
   pub found_lowest : (v : View B) → find of_entry (records_of v) ≡ lowest v.at test (suc v.high)
   found_lowest v = ap (λ n. find of_entry (records_from v.at 0 n)) (whole v) ∙ find_from v.at (suc v.high)
 
-  -- and a walk finds one exactly where there is one
+  -- and a walk finds one exactly where there is one: of its own map, or of another that it answers for
+  pub any_of : (v : View B) (asked : Entry B → Bool) (g : Map B) → ((k : ℕ) → list_any asked (option_to_list (v.at k)) ≡ is_some (kept_if test (g k))) → list_any asked (records_of v) ≡ is_some (lowest g test (suc v.high))
+  any_of v asked g each = ap (λ n. list_any asked (records_from v.at 0 n)) (whole v) ∙ any_from asked v.at g each (suc v.high)
+
   pub any_lowest : (v : View B) → list_any of_entry (records_of v) ≡ is_some (lowest v.at test (suc v.high))
-  any_lowest v = ap (λ n. list_any of_entry (records_from v.at 0 n)) (whole v) ∙ any_from v.at (suc v.high)
+  any_lowest v = any_of v of_entry v.at (λ k. any_here (v.at k))

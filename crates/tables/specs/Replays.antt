@@ -14,6 +14,9 @@ module _ {B : Type 0} where
   replay v [] = v
   replay v (e ∷ es) = replay (edited v e) es
 
+  abbrev pub SameRange : View B → View B → Type 0
+  SameRange v w = (v.low ≡ w.low) × (v.high ≡ w.high)
+
   -- the same range and the same map
   pub record Agree (v w : View B) : Type 0 where
     pub low_same : v.low ≡ w.low
