@@ -6,10 +6,9 @@ ghost use Rattle.calendar.specs.Dates.{minute_number};
 ghost use Rattle.std.specs.List.{between};
 
 use crate::codec::time_of_day;
-use crate::limits::FIRST_YEAR;
 use crate::record::Misfit;
 use crate::window::{Kept, Validity, Window};
-use calendar::{Date, Minute};
+use calendar::{Date, FIRST_YEAR, Minute};
 
 // The minute that five bytes name.
 fn minute_of(bytes: &[u8]) -> Result<Minute, Misfit>
