@@ -23,7 +23,7 @@ pub(crate) fn look_up<T: Table>(table: &T, number: u8) -> Meant<&Entry<T::Body>>
     match Named::from(number) {
         Named::Never => Meant::Never,
         Named::Always => Meant::Always,
-        Named::Record(number) => match table.get(number as u32) {
+        Named::Record(number) => match table.get(u32::from(number)) {
             Some(entry) => Meant::As(entry),
             None => Meant::Never,
         },
@@ -34,8 +34,8 @@ pub(crate) fn look_up<T: Table>(table: &T, number: u8) -> Meant<&Entry<T::Body>>
 fn includes(set: &TimeSet, minute: &Minute) -> bool
     ensures { result ≡ times_include minute.now set.now }
 {
-    let asked = minute.time().minute_of_day();
-    set.start().minute_of_day() <= asked && asked <= set.end().minute_of_day()
+    let time = minute.time();
+    set.start() <= time && time <= set.end()
 }
 
 // Does the time set of that number cover the minute?

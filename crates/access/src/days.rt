@@ -1,8 +1,8 @@
 // Which row of a zone counts on a day.
 ghost use Rattle.std.specs.Prelude.{◌≡◌, suc};
-ghost use Rattle.access.specs.Covering.{falls_on, weekday_row, holiday_among, row_among, row_sets};
+ghost use Rattle.access.specs.Covering.{falls_on, holiday_among, row_among, row_sets};
 
-use calendar::{Date, Weekday};
+use calendar::{Date, MonthDay};
 use records::{Holiday, Zone};
 use tables::table::Table;
 
@@ -13,28 +13,13 @@ const HOLIDAY_ROW: usize = 7;
 fn falls_on(holiday: &Holiday, date: &Date) -> bool
     ensures { result ≡ falls_on date.now holiday.now }
 {
-    let day = holiday.day();
-    day.month() == date.month() && day.day() == date.day()
+    holiday.day() == MonthDay::from(*date)
 }
 
 pub fn is_holiday<T: Table<Body = Holiday>>(holidays: &T, date: &Date) -> bool
     ensures { result ≡ holiday_among (T.Table.view holidays.now).at (suc (T.Table.view holidays.now).high) date.now }
 {
     holidays.iter().any(|holiday| falls_on(&holiday.body, date))
-}
-
-fn weekday_row(day: Weekday) -> usize
-    ensures { result ≡ weekday_row day }
-{
-    match day {
-        Weekday::Monday => 0,
-        Weekday::Tuesday => 1,
-        Weekday::Wednesday => 2,
-        Weekday::Thursday => 3,
-        Weekday::Friday => 4,
-        Weekday::Saturday => 5,
-        Weekday::Sunday => 6,
-    }
 }
 
 // The row of the day: the holiday row on a holiday, else that of the weekday.
@@ -44,7 +29,7 @@ pub fn row_of<T: Table<Body = Holiday>>(holidays: &T, date: &Date) -> usize
     if is_holiday(holidays, date) {
         HOLIDAY_ROW
     } else {
-        weekday_row(date.weekday())
+        usize::from(date.weekday())
     }
 }
 

@@ -17,21 +17,20 @@ use records::{Status, User, Window};
 const NOBODY: u32 = 0;
 
 // Both ends belong to the window.
+#[tactic(auto, using(calendar::proofs::Order::minute_le))]
 fn in_date(window: &Window, minute: &Minute) -> bool
     ensures { result ≡ in_date window.now minute.now }
 {
     match window {
         Window::Unused(_) => true,
-        Window::Used(validity) => {
-            validity.start().not_after(minute) && minute.not_after(&validity.end())
-        }
+        Window::Used(validity) => { validity.start() <= *minute && *minute <= validity.end() }
     }
 }
 
 fn user_event<M: Makes>(tables: &Tables<M>, user: &User, door: Door, minute: &Minute) -> Event
     ensures { result ≡ user_event (standing (⟦<Tables<M> as Site>⟧.views tables.now)) user.now door.number minute.now }
 {
-    if let Status::Off = user.status() {
+    if user.status() == Status::Off {
         return Event::UserOff;
     }
     if !in_date(&user.window(), minute) {
