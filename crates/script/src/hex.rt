@@ -1,6 +1,7 @@
 // Bytes as text: two hexadecimal digits a byte.
-ghost use Rattle.std.specs.Prelude.{◌≡◌, ◌<◌, ◌⊎◌, IfSome, Some, IfOk, Ok, Err, string_bytes, MatchResult};
+ghost use Rattle.std.specs.Prelude.{◌≡◌, ◌<◌, IfSome, Some, IfOk, string_bytes};
 ghost use Rattle.script.specs.Hex.{digit_of, hex_bytes, hex_text, ReadsPrinted, PrintsNormal, ReadsBytes};
+ghost use Rattle.script.specs.Outcome.{AnswersAs};
 ghost use Rattle.script.specs.declared.hex.HexFault.TheVariants.{Memory};
 
 use std::alloc::{AllocError, AllocFailed, Global};
@@ -33,7 +34,7 @@ pub(crate) fn digit(c: u8) -> Option<u8>
 // The bytes that `text` writes; the leftmost fault decides.
 #[tactic(auto, using(crate::proofs::HexLaws::prints_normal, crate::proofs::HexLaws::reads_bytes))]
 pub fn from_hex(heap: Global, text: &[u8]) -> Result<Vec<u8>, HexFault>
-    ensures value { MatchResult result (λ v. hex_bytes text.now ≡ Ok v.items) (λ e. (e ≡ Memory) ⊎ (hex_bytes text.now ≡ Err e)) }
+    ensures value { AnswersAs (λ v. v.items) Memory (hex_bytes text.now) result }
     ensures normal { PrintsNormal }
     ensures bytes { ReadsBytes }
 {

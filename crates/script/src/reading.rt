@@ -1,9 +1,10 @@
 // Reads a line of the sheet: its fields from left to right, so that the first fault decides.
-ghost use Rattle.std.specs.Prelude.{◌≡◌, ◌⊎◌, Ok, Err, MatchResult};
+ghost use Rattle.std.specs.Prelude.{◌≡◌};
 ghost use Rattle.std.specs.Option.{option_map};
 ghost use Rattle.script.specs.declared.entries.Fault.TheVariants.{Memory};
 ghost use Rattle.script.specs.Entries.{said};
 ghost use Rattle.script.specs.Fields.{seen};
+ghost use Rattle.script.specs.Outcome.{AnswersAs};
 ghost use Rattle.script.specs.Reading.{finished, one_byte, read_day, read_direction, read_setup, read_show, read_code, read_kind, read_entry, read_line, without_return};
 
 use crate::entries::{Entry, Fault, Kind, Setup, Showing};
@@ -109,7 +110,7 @@ fn read_show(text: &[u8]) -> Result<Showing, Fault>
 
 // What follows the first word.
 fn read_entry(heap: Global, kind: Kind, text: &[u8]) -> Result<Entry, Fault>
-    ensures { MatchResult result (λ x. read_entry kind text.now ≡ Ok (said x)) (λ e. (e ≡ Memory) ⊎ (read_entry kind text.now ≡ Err e)) }
+    ensures { AnswersAs said Memory (read_entry kind text.now) result }
 {
     Ok(match kind {
         Kind::Setup => Entry::Setup(read_setup(text)?),
@@ -124,7 +125,7 @@ fn read_entry(heap: Global, kind: Kind, text: &[u8]) -> Result<Entry, Fault>
 
 // The entry of a line, or `None` where the line is empty or a remark.
 pub fn read_line(heap: Global, line: &[u8]) -> Result<Option<Entry>, Fault>
-    ensures { MatchResult result (λ x. read_line line.now ≡ Ok (option_map said x)) (λ e. (e ≡ Memory) ⊎ (read_line line.now ≡ Err e)) }
+    ensures { AnswersAs (option_map said) Memory (read_line line.now) result }
 {
     let text = skip_spaces(line);
     if matches!(text, [] | [b'#', ..]) {
