@@ -16,7 +16,8 @@ pub struct Moment {
 impl Moment {
     ghost use Rattle.calendar.specs.Dates.{real_moment, MomentIs};
 
-    // The moment of these numbers, if they name a real one.
+    // The moment of these numbers, if they name a real one. It takes the six as they come: a Date and a TimeOfDay would ask more
+    // of a caller.
     pub fn new(year: u16, month: u8, day: u8, hour: u8, minute: u8, second: u8) -> Option<Moment>
         ensures { MatchOption result (real_moment year month day hour minute second ≡ false) (MomentIs year month day hour minute second) }
     {

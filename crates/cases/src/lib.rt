@@ -14,6 +14,8 @@ mod log;
 #[cfg(test)]
 mod makes;
 #[cfg(test)]
+mod numbers;
+#[cfg(test)]
 mod streams;
 #[cfg(test)]
 mod texts;
