@@ -9,4 +9,3 @@ pub mod Questions
 pub mod Readings
 pub mod Refusals
 pub mod Replies
-pub mod Takings

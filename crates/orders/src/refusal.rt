@@ -1,6 +1,8 @@
 // Why a frame or a call is refused.
 ghost use Rattle.std.specs.Prelude.{◌≡◌};
-ghost use Rattle.orders.specs.Refusals.{result_byte, set_up_number, answer_number, show_number};
+ghost use Rattle.orders.specs.Refusals.{result_byte, refused_as, set_up_number, answer_number, show_number};
+
+use records::Misfit;
 
 // Why a frame is not carried out.
 #[derive(Clone, Copy, PartialEq, Eq, Debug)]
@@ -40,6 +42,18 @@ impl Refusal {
             Refusal::NoTimeSetOrZone => 0x12,
             Refusal::NoZoneOrGroup => 0x13,
             Refusal::CardTaken => 0x40,
+        }
+    }
+}
+
+// Bytes of another length than the record has, or a field of it that is out of its range.
+impl From<Misfit> for Refusal {
+    ghost from_gives = { λ m e. e ≡ refused_as m };
+
+    fn from(misfit: Misfit) -> Refusal {
+        match misfit {
+            Misfit::Size => Refusal::Length,
+            Misfit::Range => Refusal::Range,
         }
     }
 }
