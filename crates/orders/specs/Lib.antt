@@ -9,3 +9,4 @@ pub mod Questions
 pub mod Readings
 pub mod Refusals
 pub mod Replies
+pub mod Words

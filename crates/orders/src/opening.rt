@@ -19,9 +19,7 @@ pub fn open(frame: &[u8]) -> Result<(Command, &[u8]), Refusal>
     if !checksum_right(frame) {
         return Err(Refusal::Checksum);
     }
-    let Some(command) = Command::from_byte(frame[8]) else {
-        return Err(Refusal::Command);
-    };
+    let command = Command::try_from(frame[8])?;
     let body = &frame[9..frame.len() - 2];
     if !command.body_size().fits(body) {
         return Err(Refusal::Length);
