@@ -34,7 +34,7 @@ fn frame(heap: Global, command: u8, body: &[u8], sum: u8, last: u8) -> Result<Ve
 fn number(frame: &[u8]) -> u8 {
     match ask(frame, MU) {
         Ok(_) => 0,
-        Err(refusal) => refusal.number(),
+        Err(refusal) => u8::from(refusal),
     }
 }
 
@@ -127,11 +127,11 @@ fn the_earlier_question_decides(rt: HostRuntime) -> Result<(), Fail> {
     assert_eq!(rt; number(&frame(heap, 0x99, &[1], 1, 0)?), 0x04);
     assert_eq!(rt; number(&frame(heap, 0x99, &[1], 0, 0)?), 0x08);
     assert_eq!(rt; number(&frame(heap, 0x2C, &[0, 0], 0, 0)?), 0x05);
-    assert!(rt; Command::from_byte(0x2C).is_some());
-    assert_eq!(rt; Refusal::CardTaken.number(), 0x40);
-    assert_eq!(rt; SetUpRefusal::Ranges.number(), 0x61);
-    assert_eq!(rt; AnswerRefusal::Buffer.number(), 0x63);
-    assert_eq!(rt; ShowRefusal::Moment.number(), 0x65);
+    assert!(rt; Command::try_from(0x2Cu8).is_ok());
+    assert_eq!(rt; u8::from(Refusal::CardTaken), 0x40);
+    assert_eq!(rt; u8::from(SetUpRefusal::Ranges), 0x61);
+    assert_eq!(rt; u8::from(AnswerRefusal::Buffer), 0x63);
+    assert_eq!(rt; u8::from(ShowRefusal::Moment), 0x65);
     Ok(())
 }
 
@@ -149,7 +149,7 @@ fn numbers(heap: Global, command: u8, body: &[u8]) -> Result<(u8, u32), Fail> {
         Order::DeleteHoliday(number) => number,
         _ => 0,
     };
-    Ok((order.command().byte(), number))
+    Ok((u8::from(order.command()), number))
 }
 
 #[test]

@@ -16,9 +16,8 @@ use Rattle.records.specs.HolidayBytes as holiday
 use Rattle.records.specs.TimeSetBytes as time-set
 use Rattle.records.specs.UserBytes as user
 use Rattle.records.specs.ZoneBytes as zone
-use Rattle.orders.specs.Bodies.{long_right}
-use Rattle.orders.specs.Fields.{every_record, counted}
-use Rattle.orders.specs.Takings.{size_taken, taken_right}
+use Rattle.orders.specs.Bodies.{size_taken, long_right}
+use Rattle.orders.specs.Fields.{every_record, counted, taken_right}
 use Rattle.orders.specs.Frames.{overwrite_byte, content_bytes, ContentRight, CountedRight}
 use Rattle.orders.specs.Meanings.{Takes, nothing, a_user_number, a_card, a_user, a_time_set_number, a_zone_number, a_group_number, a_holiday_number, time_sets, zones, groups, holidays, Content}
 

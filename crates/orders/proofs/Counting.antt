@@ -1,43 +1,82 @@
 -- Records read one behind the other, with what was read.
-use Rattle.std.proofs.Common.{◌≡◌, ℕ, ◌+◌, ◌*◌, ◌<◌, ◌≤◌, Bool, true, false, leb, List, [], ◌∷◌, ◌++◌, length, get_or, drop, is_err, IfOk, Ok, Err, Result, sym, refl, ap, ◌∙◌, mul-zero, arith}
-use Rattle.std.proofs.lemmas.List.{append-nil, flat_map_more, length-append, take_all}
-use Rattle.std.proofs.lemmas.Bool.{true≢false, false≢true, eqb-true, lt-leb, and_left, and_right}
-use Rattle.std.proofs.ByRecursion.{All-push}
+use Rattle.std.proofs.Common.{◌≡◌, ℕ, zero, suc, ◌*◌, ◌<◌, ◌≤◌, Bool, true, false, ◌&&◌, leb, List, [], ◌∷◌, ◌++◌, length, get_or, drop, Err, sym, refl, ap, ◌∙◌, mul-zero, mul-suc, arith}
+use Rattle.std.specs.List.{flat_map, AllByRecursion}
+use Rattle.std.proofs.lemmas.List.{length-append, take_all, take_at, drop_at}
+use Rattle.std.proofs.lemmas.Bool.{false≢true, eqb-true, lt-leb, and_left, and_right}
 use Rattle.tables.specs.declared.entry.Entry.{Entry}
 use Rattle.records.specs.Codec.{Reads}
 use Rattle.records.specs.declared.record.Misfit.{Misfit}
-use Rattle.orders.specs.Readings.{EntriesRead, CountedRead}
+use Rattle.records.specs.declared.record.Misfit.TheVariants.{Size, Range}
+use Rattle.orders.specs.declared.refusal.Refusal.TheVariants as refusal
+use Rattle.orders.specs.Refusals.{refused_as}
+use Rattle.orders.specs.Readings.{CountedRead}
 use Rattle.orders.specs.declared.size.BodySize.TheVariants.{Counted}
 use Rattle.orders.specs.Bodies.{long_right}
 use Rattle.orders.specs.Fields.{every_record, counted}
 
--- a read that is no error found a record
-pub read_found : {B : Type 0} (long : ℕ) (encoded : Entry B → List ℕ) (ranges : List ℕ → Bool) (numbers : ℕ → Bool) (bytes : List ℕ) (r : Result (Entry B) Misfit) → Reads long encoded ranges bytes r → IfOk r (λ e. numbers e.number ≡ true) → is_err r ≡ false → (e : Entry B) × (encoded e ≡ bytes) × (ranges bytes ≡ true) × (numbers e.number ≡ true)
-read_found long encoded ranges numbers bytes (Ok e) told named is = (e, told.0, told.1, named)
-read_found long encoded ranges numbers bytes (Err m) told named is = absurd (true≢false is)
+-- records that were read one behind the other, each under a number that it may have
+pub record EntriesRead {B : Type 0} (encoded : Entry B → List ℕ) (numbers : ℕ → Bool) (n : ℕ) (bs : List ℕ) : Type 0 where
+  pub entries : List (Entry B)
+  pub many : length entries ≡ n
+  pub bytes : flat_map encoded entries ≡ bs
+  pub in_range : AllByRecursion (λ e. numbers e.number ≡ true) entries
 
-pub none_read : {B : Type 0} (encoded : Entry B → List ℕ) (numbers : ℕ → Bool) → EntriesRead encoded numbers 0 []
-none_read encoded numbers = record { entries = []; many = refl; bytes = refl; in_range = tt }
+module _ {B : Type 0} (encoded : Entry B → List ℕ) (size : ℕ) (ranges : List ℕ → Bool) (numbers : ℕ → Bool) (count : ℕ) (records : List ℕ) where
+  -- so many records are left in the rest; where these are read, all are
+  pub record Left (rest : List ℕ) : Type 0 where
+    pub many : ℕ
+    pub room : length rest ≡ size * many
+    pub right : every_record ranges size many rest ≡ every_record ranges size count records
+    pub read : EntriesRead encoded numbers many rest → EntriesRead encoded numbers count records
 
-pub one_read_more : {B : Type 0} (encoded : Entry B → List ℕ) (numbers : ℕ → Bool) (k : ℕ) (done first : List ℕ) (e : Entry B) → EntriesRead encoded numbers k done → encoded e ≡ first → numbers e.number ≡ true → EntriesRead encoded numbers (k + 1) (done ++ first)
-one_read_more encoded numbers k done first e read is right =
-    record {
-      entries = read.entries ++ (e ∷ []);
-      many = length-append read.entries (e ∷ []) ∙ ap (λ n. n + 1) read.many;
-      bytes = sym (flat_map_more encoded [] read.entries e) ∙ (λ i. read.bytes i ++ is i);
-      in_range = All-push (λ x. numbers x.number ≡ true) read.entries e read.in_range right;
-    }
+  pub all_left : length records ≡ size * count → Left records
+  all_left room = record { many = count; room = room; right = refl; read = λ r. r }
 
-nothing_left : (xs : List ℕ) → length xs ≡ 0 → xs ≡ []
-nothing_left [] none = refl
-nothing_left (x ∷ xs) some = absurd (omega arith)
+  -- where a record comes off the front, there was one left
+  one_off : (many : ℕ) (rest first after : List ℕ) → 0 < size → length rest ≡ size * many → rest ≡ first ++ after → length first ≡ size → (m : ℕ) × (many ≡ suc m) × (length after ≡ size * m)
+  one_off zero rest first after some room is long =
+      absurd (omega (arith, mul-zero size, ap length is, length-append first after))
+  one_off (suc m) rest first after some room is long =
+      (m, refl, omega (arith, mul-suc size m, ap length is, length-append first after))
 
-pub all_done : {B : Type 0} (encoded : Entry B → List ℕ) (numbers : ℕ → Bool) (long left k count : ℕ) (rest done records : List ℕ) → left ≡ 0 → length rest ≡ long * left → done ++ rest ≡ records → k + left ≡ count → EntriesRead encoded numbers k done → EntriesRead encoded numbers count records
-all_done encoded numbers long left k count rest done records none room whole sum read =
-    let empty = nothing_left rest (room ∙ ap (λ n. long * n) none ∙ mul-zero long) in
-    let bytes : done ≡ records = sym (append-nil done) ∙ ap (λ r. done ++ r) (sym empty) ∙ whole in
-    let many : k ≡ count = omega arith in
-    record { entries = read.entries; many = read.many ∙ many; bytes = read.bytes ∙ bytes; in_range = read.in_range }
+  asked_on : (m : ℕ) (rest first after : List ℕ) → rest ≡ first ++ after → length first ≡ size → every_record ranges size (suc m) rest ≡ (ranges first && every_record ranges size m after)
+  asked_on m rest first after is long =
+      ap (every_record ranges size (suc m)) is ∙ (λ i. ranges (take_at first after size long i) && every_record ranges size m (drop_at first after size long i))
+
+  pub one_read : (rest first after : List ℕ) (e : Entry B) → 0 < size → rest ≡ first ++ after → length first ≡ size → encoded e ≡ first → ranges first ≡ true → numbers e.number ≡ true → Left rest → Left after
+  one_read rest first after e some is long bytes right named left =
+      let off = one_off left.many rest first after some left.room is long in
+      let on = asked_on off.0 rest first after is long in
+      record {
+        many = off.0;
+        room = off.2;
+        right = sym (ap (λ t. t && every_record ranges size off.0 after) right) ∙ sym on ∙ ap (λ k. every_record ranges size k rest) (sym off.1) ∙ left.right;
+        read = λ r. left.read (record {
+          entries = e ∷ r.entries;
+          many = ap (λ n. suc n) r.many ∙ sym off.1;
+          bytes = (λ i. bytes i ++ r.bytes i) ∙ sym is;
+          in_range = (named, r.in_range);
+        });
+      }
+
+  pub one_wrong : (rest first after : List ℕ) → 0 < size → rest ≡ first ++ after → length first ≡ size → ranges first ≡ false → Left rest → every_record ranges size count records ≡ false
+  one_wrong rest first after some is long wrong left =
+      let off = one_off left.many rest first after some left.room is long in
+      sym left.right ∙ ap (λ k. every_record ranges size k rest) off.1 ∙ asked_on off.0 rest first after is long ∙ ap (λ t. t && every_record ranges size off.0 after) wrong
+
+  pub none_left : (rest : List ℕ) → length rest < size → Left rest → EntriesRead encoded numbers count records
+  none_left rest few left = left.read (nothing left.many rest few left.room)
+    where
+      nothing : (many : ℕ) (rest : List ℕ) → length rest < size → length rest ≡ size * many → EntriesRead encoded numbers many rest
+      nothing zero [] few room = record { entries = []; many = refl; bytes = refl; in_range = tt }
+      nothing zero (x ∷ xs) few room = absurd (omega (arith, mul-zero size))
+      nothing (suc m) xs few room = absurd (omega (arith, mul-suc size m))
+
+-- ---- what bytes of the right size are refused for
+
+pub misfit_told : {E : Type 0} (size : ℕ) (encoded : E → List ℕ) (ranges : List ℕ → Bool) (bytes : List ℕ) (m : Misfit) → Reads size encoded ranges bytes (Err m) → length bytes ≡ size → (refused_as m ≡ refusal.Range) × (ranges bytes ≡ false)
+misfit_told size encoded ranges bytes Size told long = absurd (told long)
+misfit_told size encoded ranges bytes Range told long = (refl, told.1)
 
 -- ---- a counted body
 
@@ -61,8 +100,3 @@ counted_done encoded numbers size (n ∷ records) long some few read =
       few = omega (arith, read.many);
       in_range = read.in_range;
     }
-
-pub only_byte : (bs : List ℕ) → length bs ≡ 1 → get_or bs 0 0 ∷ [] ≡ bs
-only_byte [] few = absurd (omega arith)
-only_byte (b ∷ []) one = refl
-only_byte (b ∷ c ∷ bs) many = absurd (omega arith)

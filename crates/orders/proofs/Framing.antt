@@ -21,7 +21,6 @@ use Rattle.orders.specs.Replies.{two, closed}
 use Rattle.orders.proofs.Contents.{content_long, content_in_range, content_apart}
 use Rattle.orders.proofs.Decoding.{computed}
 use Rattle.orders.proofs.Naming.{commands_law}
-use Rattle.orders.proofs.Takings.{size_as_taken, fields_as_taken}
 
 -- ---- bytes with their checksum and 04 behind them
 
@@ -67,8 +66,8 @@ asked_of last tid m right =
     let e2 = closed_sums h in
     let e3 = commands_law.read_back c in
     let e4 : body_of f ≡ b = take_at b (sum h % 256 ∷ 4 ∷ []) (length f - 2 - 9) (omega arith) in
-    let is_opened : opened f ≡ Ok (c, b) = ap (λ t. cond t (cond (sums_right f) (with_command (command_of (get_or f 8 0)) (body_of f)) (Err refusal.Checksum)) (Err refusal.Length)) e1 ∙ ap (λ t. cond t (with_command (command_of (get_or f 8 0)) (body_of f)) (Err refusal.Checksum)) e2 ∙ (λ i. with_command (e3 i) (e4 i)) ∙ ap (λ t. cond t (Ok (c, b)) (Err refusal.Length)) (ap (λ s. long_right s b) (size_as_taken c) ∙ content_long last (takes c) m.1 right) in
-    ap (with_fields last) is_opened ∙ ap (λ t. cond t (Ok (c, b)) (Err refusal.Range)) (fields_as_taken last c b ∙ content_in_range last (takes c) m.1 right)
+    let is_opened : opened f ≡ Ok (c, b) = ap (λ t. cond t (cond (sums_right f) (with_command (command_of (get_or f 8 0)) (body_of f)) (Err refusal.Checksum)) (Err refusal.Length)) e1 ∙ ap (λ t. cond t (with_command (command_of (get_or f 8 0)) (body_of f)) (Err refusal.Checksum)) e2 ∙ (λ i. with_command (e3 i) (e4 i)) ∙ ap (λ t. cond t (Ok (c, b)) (Err refusal.Length)) (content_long last (takes c) m.1 right) in
+    ap (with_fields last) is_opened ∙ ap (λ t. cond t (Ok (c, b)) (Err refusal.Range)) (content_in_range last (takes c) m.1 right)
 
 -- ---- from a frame to the order that it asks for
 
@@ -170,14 +169,12 @@ only_one last tid m n right right' is =
 
 -- ---- what the reader of a frame found
 
-pub asks_taken : (last : ℕ) (f : List ℕ) (c : Command) (body : List ℕ) (o : Order) → Ok (c, body) ≡ opened f → (t : Taken last c body o) → asked last f ≡ Ok (c, content_bytes (takes c) t.content)
-asks_taken last f c body o is t =
-    let right = sym (ap (fields_right last c) t.bytes) ∙ fields_as_taken last c (content_bytes (takes c) t.content) ∙ content_in_range last (takes c) t.content t.right in
-    ap (with_fields last) (sym is) ∙ ap (λ b. cond b (Ok (c, body)) (Err refusal.Range)) right ∙ ap (λ l. Ok (c, l)) (sym t.bytes)
+pub taken_right : (last : ℕ) (c : Command) (body : List ℕ) (o : Order) → Taken last c body o → fields_right last c body ≡ true
+taken_right last c body o t = sym (ap (fields_right last c) t.bytes) ∙ content_in_range last (takes c) t.content t.right
 
-pub asks_wrong : (last : ℕ) (f : List ℕ) (c : Command) (body : List ℕ) (e : Refusal) → Ok (c, body) ≡ opened f → fields_right last c body ≡ false → e ≡ refusal.Range → asked last f ≡ Err e
-asks_wrong last f c body e is wrong range =
-    ap (with_fields last) (sym is) ∙ ap (λ b. cond b (Ok (c, body)) (Err refusal.Range)) wrong ∙ ap (λ r. Err r) (sym range)
+pub asks_taken : (last : ℕ) (f : List ℕ) (c : Command) (body : List ℕ) (o : Order) → Ok (c, body) ≡ opened f → Taken last c body o → asked last f ≡ Ok (c, body)
+asks_taken last f c body o is t =
+    ap (with_fields last) (sym is) ∙ ap (λ b. cond b (Ok (c, body)) (Err refusal.Range)) (taken_right last c body o t)
 
 pub frame_laws : (last : ℕ) (f : List ℕ) → ((i : ℕ) → get_or f i 0 < 256) → FrameLaws last f
 frame_laws last f bytes =

@@ -6,6 +6,4 @@ pub mod Framing
 pub mod Naming
 pub mod NewUsers
 pub mod Places
-pub mod Ranging
 pub mod Taking
-pub mod Takings

@@ -1,7 +1,7 @@
 -- A user in a body that has the byte OVERWRITE behind the number.
-use Rattle.std.proofs.Common.{◌≡◌, ℕ, zero, suc, ◌+◌, ◌≤◌, true, false, eqb, List, ◌∷◌, ◌++◌, length, get_or, take, drop, is_err, IfOk, Some, None, Ok, Err, Option, Result, sym, refl, ap, ◌∙◌, arith}
+use Rattle.std.proofs.Common.{◌≡◌, ℕ, zero, suc, ◌+◌, ◌-◌, ◌<◌, ◌≤◌, true, false, eqb, List, ◌∷◌, ◌++◌, length, get_or, take, drop, IfOk, Some, None, Ok, Err, Option, Result, sym, refl, ap, ◌∙◌, arith}
 use Rattle.std.specs.Result.{result_ok}
-use Rattle.std.proofs.lemmas.List.{length-drop, length-take, length-take-le, take_all, take-append-drop, drop_more}
+use Rattle.std.proofs.lemmas.List.{take_rest, length-drop, length-take, length-take-le, take_all, take-append-drop, drop-drop, drop_more}
 use Rattle.std.proofs.lemmas.Bool.{true≢false, and_parts}
 use Rattle.tables.specs.declared.entry.Entry.{Entry}
 use Rattle.records.specs.declared.record.Misfit.{Misfit}
@@ -15,38 +15,41 @@ use Rattle.orders.specs.Fields.{user_of}
 use Rattle.orders.specs.Frames.{overwrite_byte}
 use Rattle.orders.specs.Orders.{LiesBehind, FindsUser}
 use Rattle.orders.specs.Readings.{UserRead}
-use Rattle.orders.proofs.Ranging.{read_tells}
+use Rattle.orders.specs.declared.refusal.Refusal.TheVariants as refusal
+use Rattle.orders.specs.Refusals.{refused_as}
+use Rattle.orders.proofs.Counting.{misfit_told}
 
 overwrite_back : (b : ℕ) → b ≤ 1 → overwrite_byte (eqb b 1) ≡ b
 overwrite_back zero small = refl
 overwrite_back (suc zero) small = refl
 overwrite_back (suc (suc b)) small = absurd (omega arith)
 
--- the bytes behind OVERWRITE
-behind : (body : List ℕ) → length body ≡ 85 → take 80 (drop 5 body) ≡ drop 5 body
-behind body long = take_all 80 (drop 5 body) (omega (arith, length-drop 5 body))
+-- the bytes of the number, and those behind it: OVERWRITE and the rest
+module _ (last : ℕ) (body front behind : List ℕ) (n : ℕ) (front_is : front ≡ take 4 body) (behind_is : behind ≡ drop 4 body) (name : four n ≡ front) where
+  abbrev rest : List ℕ
+  rest = take (length behind - 1) (drop 1 behind)
 
-user_bytes_of : (body : List ℕ) (n : ℕ) → length body ≡ 85 → four n ≡ take 4 body → four n ++ take 80 (drop 5 body) ≡ user_of body
-user_bytes_of body n long is = λ i. is i ++ behind body long i
+  rest_is : rest ≡ drop 5 body
+  rest_is = take_rest behind 1 ∙ ap (drop 1) behind_is ∙ drop-drop 1 4 body
 
-pub user_not_found : (last : ℕ) (body : List ℕ) (n : ℕ) (r : Result (Entry User) Misfit) → length body ≡ 85 → four n ≡ take 4 body → Reads 84 user_bytes (user_ranges last) (four n ++ take 80 (drop 5 body)) r → is_err r ≡ true → user_ranges last (user_of body) ≡ false
-user_not_found last body n r long is read wrong =
-    let size : length (take 80 (drop 5 body)) ≡ 80 = length-take-le 80 (drop 5 body) (omega (arith, length-drop 5 body)) in
-    ap (user_ranges last) (sym (user_bytes_of body n long is)) ∙ read_tells 84 user_bytes (user_ranges last) (four n ++ take 80 (drop 5 body)) r true read (omega (arith, size)) wrong
+  pub user_found : (e : Entry User) → 0 < length behind → get_or behind 0 0 ≤ 1 → user_bytes e ≡ four n ++ rest → e.number ≡ n → user_may_have last e.number ≡ true → UserRead last body (record { number = n; overwrite = eqb (get_or behind 0 0) 1; rest = 5 })
+  user_found e some small read number named =
+      let tail = ap (drop 4) read in
+      let over = overwrite_back (get_or behind 0 0) small in
+      let few : length (drop 5 body) ≤ 80 = omega (arith, user.sized e, ap length read, ap length rest_is) in
+      let whole : get_or behind 0 0 ∷ drop 1 behind ≡ behind = sym (drop_more behind 0 0 some) in
+      record {
+        entry = e;
+        lies = (number, tail ∙ rest_is ∙ sym (take_all 80 (drop 5 body) few));
+        bytes = (λ i. (ap four number ∙ name ∙ front_is) i ++ (over i ∷ (tail ∙ take_rest behind 1) i)) ∙ ap (λ l. take 4 body ++ l) (whole ∙ behind_is) ∙ take-append-drop 4 body;
+        right = named;
+      }
 
-pub user_found : (last : ℕ) (body : List ℕ) (n : ℕ) (r : Result (Entry User) Misfit) → length body ≡ 85 → get_or body 4 0 ≤ 1 → four n ≡ take 4 body → Reads 84 user_bytes (user_ranges last) (four n ++ take 80 (drop 5 body)) r → IfOk r (λ e. e.number ≡ n) → IfOk r (λ e. user_may_have last e.number ≡ true) → is_err r ≡ false → UserRead last body (record { number = n; overwrite = eqb (get_or body 4 0) 1; rest = 5 })
-user_found last body n (Ok e) long small is read number named right =
-    let rest = ap (drop 4) read.0 in
-    let name = ap four number ∙ is in
-    let over = overwrite_back (get_or body 4 0) small in
-    let tail : drop 4 body ≡ get_or body 4 0 ∷ drop 5 body = drop_more body 4 0 (omega arith) in
-    record {
-      entry = e;
-      lies = (number, rest);
-      bytes = (λ i. name i ++ (over i ∷ (rest ∙ behind body long) i)) ∙ ap (λ l. take 4 body ++ l) (sym tail) ∙ take-append-drop 4 body;
-      right = named;
-    }
-user_found last body n (Err m) long small is read number named right = absurd (true≢false right)
+  pub user_not_found : (m : Misfit) → Reads 84 user_bytes (user_ranges last) (four n ++ rest) (Err m) → length body ≡ 85 → (refused_as m ≡ refusal.Range) × (user_ranges last (user_of body) ≡ false)
+  user_not_found m read long =
+      let size = length-drop 5 body in
+      let told = misfit_told 84 user_bytes (user_ranges last) (four n ++ rest) m read (omega (arith, size, ap length rest_is)) in
+      (told.0, ap (user_ranges last) (λ i. (sym front_is ∙ sym name) i ++ sym rest_is i) ∙ told.1)
 
 -- ---- the user of an order, of the bytes beside it
 

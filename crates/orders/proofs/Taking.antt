@@ -1,26 +1,36 @@
 -- A body read as what its command takes.
-use Rattle.std.proofs.Common.{◌≡◌, ℕ, Bool, true, List, [], ◌∷◌, length, sym, refl, ap, ◌∙◌, subst, arith}
+use Rattle.std.proofs.Common.{◌≡◌, ℕ, true, List, [], ◌∷◌, length, get_or, sym, refl, ap, ◌∙◌, subst, arith}
 use Rattle.std.proofs.lemmas.Bool.{eqb-true}
-use Rattle.tables.specs.declared.entry.Entry.{Entry}
 use Rattle.orders.specs.declared.command.Command.{Command}
 use Rattle.orders.specs.declared.order.Order.{Order}
-use Rattle.orders.specs.declared.order.Place.{Place}
 use Rattle.orders.specs.declared.size.BodySize.TheVariants.{Fixed}
 use Rattle.orders.specs.Bodies.{size_of, long_right}
-use Rattle.orders.specs.Frames.{CountedRight}
-use Rattle.orders.specs.Readings.{CountedRead, Taken}
-
-empty : (body : List ℕ) → long_right (Fixed 0) body ≡ true → [] ≡ body
-empty [] right = refl
-empty (b ∷ body) right = let some = eqb-true (length (b ∷ body)) 0 right in absurd (omega arith)
+use Rattle.orders.specs.Frames.{content_bytes, ContentRight}
+use Rattle.orders.specs.Meanings.{nothing, takes, Content}
+use Rattle.orders.specs.Orders.{Brings}
+use Rattle.orders.specs.Readings.{Taken}
 
 pub taken_by : {last : ℕ} {c d : Command} {body : List ℕ} {o : Order} → c ≡ d → Taken last d body o → Taken last c body o
 taken_by {last} {c} {d} {body} {o} is taken = subst (λ x. Taken last x body o) (sym is) taken
 
--- a command that takes nothing
-pub plainly : {last : ℕ} {c d : Command} {body : List ℕ} {o : Order} → size_of d ≡ Fixed 0 → c ≡ d → long_right (size_of c) body ≡ true → ([] ≡ body → Taken last d body o) → Taken last c body o
-plainly {last} {c} {d} {body} none is long taken =
-    taken_by is (taken (empty body (sym (ap (λ x. long_right (size_of x) body) is ∙ ap (λ s. long_right s body) none) ∙ long)))
+long : {c d : Command} (body : List ℕ) (n : ℕ) → size_of d ≡ Fixed n → c ≡ d → long_right (size_of c) body ≡ true → length body ≡ n
+long {c} {d} body n size is right = eqb-true (length body) n (sym (ap (λ x. long_right (size_of x) body) is ∙ ap (λ s. long_right s body) size) ∙ right)
 
-pub counted_right : {B : Type 0} (encoded : Entry B → List ℕ) (size : ℕ) (numbers : ℕ → Bool) (body : List ℕ) (p : Place) (r : CountedRead encoded size numbers body p) → CountedRight numbers r.entries
-counted_right encoded size numbers body p r = (r.some, r.few, r.in_range)
+-- a command that takes nothing
+pub plainly : {last : ℕ} {c d : Command} {body : List ℕ} {o : Order} → takes d ≡ nothing → size_of d ≡ Fixed 0 → c ≡ d → long_right (size_of c) body ≡ true → ((x : Content (takes d)) → Brings o body (d, x)) → Taken last c body o
+plainly {last} {c} {d} {body} none size is right brings =
+    let held = subst (λ t. (x : Content t) × (content_bytes t x ≡ []) × ContentRight last t x) (sym none) (tt, refl, tt) in
+    taken_by is (record { content = held.0; brings = brings held.0; bytes = held.1 ∙ empty body (long body 0 size is right); right = held.2 })
+  where
+    empty : (body : List ℕ) → length body ≡ 0 → [] ≡ body
+    empty [] few = refl
+    empty (b ∷ body) many = absurd (omega arith)
+
+-- a command that takes the number of a record
+pub numbered : {last : ℕ} {c d : Command} {body : List ℕ} {o : Order} (n : ℕ) → size_of d ≡ Fixed 1 → c ≡ d → long_right (size_of c) body ≡ true → n ≡ get_or body 0 0 → (n ∷ [] ≡ body → Taken last d body o) → Taken last c body o
+numbered {last} {c} {d} {body} n size is right read taken = taken_by is (taken (one body (long body 1 size is right) read))
+  where
+    one : (body : List ℕ) → length body ≡ 1 → n ≡ get_or body 0 0 → n ∷ [] ≡ body
+    one [] few read = absurd (omega arith)
+    one (b ∷ []) few read = λ i. read i ∷ []
+    one (b ∷ c ∷ body) many read = absurd (omega arith)

@@ -9,4 +9,4 @@ pub mod Questions
 pub mod Readings
 pub mod Refusals
 pub mod Replies
-pub mod Takings
+pub mod Words

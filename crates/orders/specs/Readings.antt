@@ -1,5 +1,5 @@
 -- What a frame asks.
-use Rattle.std.specs.Prelude.{◌≡◌, ℕ, ◌≤◌, Bool, true, List, [], ◌∷◌, length, Ok, Err, Result}
+use Rattle.std.specs.Prelude.{◌≡◌, ℕ, ◌≤◌, Bool, true, List, ◌∷◌, length, Ok, Err, Result}
 use Rattle.std.specs.Borrow.{Bor}
 use Rattle.std.specs.List.{flat_map, AllByRecursion}
 use Rattle.line.specs.Frame.{Whole}
@@ -26,13 +26,6 @@ abbrev pub ReadsFrame : ℕ → List ℕ → Result (Order × Bor (List ℕ)) Re
 ReadsFrame last f (Ok p) = (m : Meaning) × Brings p.0 p.1.now m × Asks last f (Ok m)
 ReadsFrame last f (Err e) = Asks last f (Err e)
 
--- records that were read one behind the other, each under a number that it may have
-pub record EntriesRead {B : Type 0} (encoded : Entry B → List ℕ) (numbers : ℕ → Bool) (n : ℕ) (bs : List ℕ) : Type 0 where
-  pub entries : List (Entry B)
-  pub many : length entries ≡ n
-  pub bytes : flat_map encoded entries ≡ bs
-  pub in_range : AllByRecursion (λ e. numbers e.number ≡ true) entries
-
 -- a counted body with its records
 pub record CountedRead {B : Type 0} (encoded : Entry B → List ℕ) (size : ℕ) (numbers : ℕ → Bool) (body : List ℕ) (p : Place) : Type 0 where
   pub entries : List (Entry B)
@@ -41,10 +34,6 @@ pub record CountedRead {B : Type 0} (encoded : Entry B → List ℕ) (size : ℕ
   pub some : 1 ≤ length entries
   pub few : length entries ≤ 255
   pub in_range : AllByRecursion (λ e. numbers e.number ≡ true) entries
-
--- a number that a body is, and that is right
-abbrev pub NumberRead : (ℕ → Bool) → List ℕ → ℕ → Type 0
-NumberRead number_right body n = (n ∷ [] ≡ body) × (number_right n ≡ true)
 
 -- a user that was read, with OVERWRITE behind the number
 pub record UserRead (last : ℕ) (body : List ℕ) (u : NewUser) : Type 0 where

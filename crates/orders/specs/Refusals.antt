@@ -1,5 +1,8 @@
 -- The number of each refusal.
 use Rattle.std.specs.Prelude.{ℕ}
+use Rattle.records.specs.declared.record.Misfit.{Misfit}
+use Rattle.records.specs.declared.record.Misfit.TheVariants.{Size}
+use Rattle.records.specs.declared.record.Misfit.TheVariants as misfit
 use Rattle.orders.specs.declared.refusal.AnswerRefusal.{AnswerRefusal}
 use Rattle.orders.specs.declared.refusal.AnswerRefusal.TheVariants.{Buffer}
 use Rattle.orders.specs.declared.refusal.Refusal.{Refusal}
@@ -19,6 +22,11 @@ result_byte Range = 0x09
 result_byte NoTimeSetOrZone = 0x12
 result_byte NoZoneOrGroup = 0x13
 result_byte CardTaken = 0x40
+
+-- what a frame is refused with whose bytes are no record
+abbrev pub refused_as : Misfit → Refusal
+refused_as Size = Length
+refused_as misfit.Range = Range
 
 abbrev pub set_up_number : SetUpRefusal → ℕ
 set_up_number Users = 0x60

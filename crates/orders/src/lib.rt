@@ -3,7 +3,6 @@
 
 mod body;
 pub mod command;
-mod fields;
 pub mod heading;
 pub mod opening;
 pub mod order;

@@ -4,7 +4,7 @@ ghost use Rattle.orders.specs.Bodies.{size_of, long_right};
 ghost use Rattle.orders.specs.Questions.{told, opened, asked};
 
 use crate::command::Command;
-use crate::fields::fields_right;
+use crate::protocol::reading::order_of;
 use crate::refusal::Refusal;
 use line::frame::{checksum_right, ends_right};
 
@@ -19,9 +19,7 @@ pub fn open(frame: &[u8]) -> Result<(Command, &[u8]), Refusal>
     if !checksum_right(frame) {
         return Err(Refusal::Checksum);
     }
-    let Some(command) = Command::from_byte(frame[8]) else {
-        return Err(Refusal::Command);
-    };
+    let command = Command::try_from(frame[8])?;
     let body = &frame[9..frame.len() - 2];
     if !command.body_size().fits(body) {
         return Err(Refusal::Length);
@@ -34,8 +32,6 @@ pub fn ask(frame: &[u8], last_user: u32) -> Result<(Command, &[u8]), Refusal>
     ensures { told result ≡ asked last_user frame.now }
 {
     let (command, body) = open(frame)?;
-    if !fields_right(last_user, command, body) {
-        return Err(Refusal::Range);
-    }
+    order_of(last_user, command, body)?;
     Ok((command, body))
 }

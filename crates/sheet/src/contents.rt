@@ -47,12 +47,12 @@ pub(crate) fn tell_records(rt: &HostRuntime, last_user: u32, frame: &[u8]) -> io
     let [_, _, _, _, _, _, _, _, command, body @ .., _, _] = frame else {
         return Ok(());
     };
-    match Command::from_byte(*command) {
-        Some(Command::RegisterUser) => tell_user(rt, last_user, body),
-        Some(Command::PutTimeSets) => tell_counted::<TimeSet>(rt, "time set", last_user, body),
-        Some(Command::PutZones) => tell_counted::<Zone>(rt, "zone", last_user, body),
-        Some(Command::PutGroups) => tell_counted::<Group>(rt, "group", last_user, body),
-        Some(Command::PutHolidays) => tell_counted::<Holiday>(rt, "holiday", last_user, body),
+    match Command::try_from(*command) {
+        Ok(Command::RegisterUser) => tell_user(rt, last_user, body),
+        Ok(Command::PutTimeSets) => tell_counted::<TimeSet>(rt, "time set", last_user, body),
+        Ok(Command::PutZones) => tell_counted::<Zone>(rt, "zone", last_user, body),
+        Ok(Command::PutGroups) => tell_counted::<Group>(rt, "group", last_user, body),
+        Ok(Command::PutHolidays) => tell_counted::<Holiday>(rt, "holiday", last_user, body),
         _ => Ok(()),
     }
 }

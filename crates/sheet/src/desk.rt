@@ -3,7 +3,6 @@ ghost use Rattle.std.specs.Prelude.{◌<◌, length, IfOk};
 
 use crate::contents::tell_records;
 use crate::order::Note;
-use crate::words::{command_words, refusal_words};
 use line::{Fed, FrameBuffer, Line, Listening};
 use orders::ask;
 use script::Entry;
@@ -157,13 +156,11 @@ fn tell_order(rt: &HostRuntime, last_user: u32, frame: &[u8]) -> io::Result<bool
     println!(rt; "# {note}")?;
     match ask(frame, last_user) {
         Ok((command, _)) => {
-            let words = command_words(command);
-            println!(rt; "# it asks to {words}")?;
+            println!(rt; "# it asks to {command}")?;
         }
         Err(refusal) => {
-            let number = refusal.number();
-            let words = refusal_words(refusal);
-            println!(rt; "# refused with {number:02X}: {words}")?;
+            let number = u8::from(refusal);
+            println!(rt; "# refused with {number:02X}: {refusal}")?;
         }
     }
     tell_records(rt, last_user, frame)?;

@@ -4,7 +4,6 @@
 mod contents;
 mod desk;
 mod order;
-mod words;
 
 use anyhow::anyhow;
 use desk::Desk;
