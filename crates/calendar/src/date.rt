@@ -11,9 +11,8 @@ const LAST_YEAR: u16 = 2099;
 const FEBRUARY: u8 = 2;
 
 // The days before each month of a year that has no leap day.
-const DAYS_BEFORE: [u16; 12] = [0, 31, 59, 90, 120, 151, 181, 212, 243, 273, 304, 334];
+const DAYS_BEFORE: [u32; 12] = [0, 31, 59, 90, 120, 151, 181, 212, 243, 273, 304, 334];
 
-// The order is that of time.
 #[derive(Clone, Copy, PartialEq, Eq, PartialOrd, Ord, Debug)]
 pub struct Date {
     pub(crate) year: u16,
@@ -99,7 +98,7 @@ impl Date {
         ensures bound { result ≤ 335 }
     {
         let leap_day = u32::from(FEBRUARY < self.month && is_leap(self.year));
-        u32::from(DAYS_BEFORE[usize::from(self.month - 1)]) + leap_day
+        DAYS_BEFORE[usize::from(self.month - 1)] + leap_day
     }
 
     #[tactic(auto, unfolding(crate::specs::Days::day_count))]

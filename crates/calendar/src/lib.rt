@@ -1,4 +1,5 @@
 // Dates and times of the years 2000 to 2099. What is held is always real: each type's invariant says so.
+// The derived orders are the order of time: proofs/Order.antt says so in days and minutes, for crates above to cite.
 #![tactic(auto)]
 
 pub mod date;

@@ -6,7 +6,6 @@ use crate::time_of_day::TimeOfDay;
 
 const MINUTES_OF_A_DAY: u32 = 1440;
 
-// The order is that of time.
 #[derive(Clone, Copy, PartialEq, Eq, PartialOrd, Ord, Debug)]
 pub struct Minute {
     pub(crate) date: Date,

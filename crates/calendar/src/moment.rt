@@ -5,7 +5,6 @@ use crate::date::Date;
 use crate::minute::Minute;
 use crate::time_of_day::TimeOfDay;
 
-// The order is that of time.
 #[derive(Clone, Copy, PartialEq, Eq, PartialOrd, Ord, Debug)]
 pub struct Moment {
     pub(crate) minute: Minute,

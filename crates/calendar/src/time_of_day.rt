@@ -2,7 +2,6 @@
 ghost use Rattle.std.specs.Prelude.{◌≡◌, ◌<◌, ◌≤◌, false, MatchOption};
 ghost use Rattle.calendar.specs.Days.{real_time, minute_of_day};
 
-// The order is that of time.
 #[derive(Clone, Copy, PartialEq, Eq, PartialOrd, Ord, Debug)]
 pub struct TimeOfDay {
     pub(crate) hour: u8,
