@@ -2,7 +2,7 @@
 use Rattle.std.proofs.Common.{◌≡◌, ℕ, zero, suc, ◌*◌, ◌<◌, ◌≤◌, Bool, true, false, ◌&&◌, leb, List, [], ◌∷◌, ◌++◌, length, get_or, drop, Err, sym, refl, ap, ◌∙◌, mul-zero, mul-suc, arith}
 use Rattle.std.specs.List.{flat_map, AllByRecursion}
 use Rattle.std.proofs.lemmas.List.{length-append, take_all, take_at, drop_at}
-use Rattle.std.proofs.lemmas.Bool.{false≢true, eqb-true, lt-leb, and_left, and_right}
+use Rattle.std.proofs.lemmas.Bool.{false≢true, eqb-true, and_right}
 use Rattle.tables.specs.declared.entry.Entry.{Entry}
 use Rattle.records.specs.Codec.{Reads}
 use Rattle.records.specs.declared.record.Misfit.{Misfit}
@@ -28,9 +28,6 @@ module _ {B : Type 0} (encoded : Entry B → List ℕ) (size : ℕ) (ranges : Li
     pub room : length rest ≡ size * many
     pub right : every_record ranges size many rest ≡ every_record ranges size count records
     pub read : EntriesRead encoded numbers many rest → EntriesRead encoded numbers count records
-
-  pub all_left : length records ≡ size * count → Left records
-  all_left room = record { many = count; room = room; right = refl; read = λ r. r }
 
   -- where a record comes off the front, there was one left
   one_off : (many : ℕ) (rest first after : List ℕ) → 0 < size → length rest ≡ size * many → rest ≡ first ++ after → length first ≡ size → (m : ℕ) × (many ≡ suc m) × (length after ≡ size * m)
@@ -79,10 +76,6 @@ misfit_told size encoded ranges bytes Size told long = absurd (told long)
 misfit_told size encoded ranges bytes Range told long = (refl, told.1)
 
 -- ---- a counted body
-
-pub counted_few : (ranges : List ℕ → Bool) (size : ℕ) (body : List ℕ) → get_or body 0 0 < 1 → counted ranges size body ≡ false
-counted_few ranges size [] few = refl
-counted_few ranges size (n ∷ records) few = and_left (leb 1 n) _ (lt-leb 1 n few)
 
 pub counted_wrong : (ranges : List ℕ → Bool) (size : ℕ) (body : List ℕ) → every_record ranges size (get_or body 0 0) (drop 1 body) ≡ false → counted ranges size body ≡ false
 counted_wrong ranges size [] wrong = refl

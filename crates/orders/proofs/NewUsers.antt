@@ -1,7 +1,7 @@
 -- A user in a body that has the byte OVERWRITE behind the number.
-use Rattle.std.proofs.Common.{◌≡◌, ℕ, zero, suc, ◌+◌, ◌-◌, ◌<◌, ◌≤◌, true, false, eqb, List, ◌∷◌, ◌++◌, length, get_or, take, drop, IfOk, Some, None, Ok, Err, Option, Result, sym, refl, ap, ◌∙◌, arith}
+use Rattle.std.proofs.Common.{◌≡◌, ℕ, zero, suc, ◌-◌, ◌<◌, ◌≤◌, true, false, eqb, List, ◌∷◌, ◌++◌, length, get_or, take, drop, IfOk, Some, None, Ok, Err, Option, Result, sym, refl, ap, ◌∙◌, arith}
 use Rattle.std.specs.Result.{result_ok}
-use Rattle.std.proofs.lemmas.List.{take_rest, length-drop, length-take, length-take-le, take_all, take-append-drop, drop-drop, drop_more}
+use Rattle.std.proofs.lemmas.List.{take_rest, length-drop, length-take, take_all, take-append-drop, drop-drop, drop_more}
 use Rattle.std.proofs.lemmas.Bool.{true≢false, and_parts}
 use Rattle.tables.specs.declared.entry.Entry.{Entry}
 use Rattle.records.specs.declared.record.Misfit.{Misfit}
@@ -53,12 +53,10 @@ module _ (last : ℕ) (body front behind : List ℕ) (n : ℕ) (front_is : front
 
 -- ---- the user of an order, of the bytes beside it
 
-pub user_at : (last : ℕ) (u : NewUser) (bs : List ℕ) (r : Result (Entry User) Misfit) → u.rest + 80 ≤ length bs → Reads 84 user_bytes (user_ranges last) (four u.number ++ take 80 (drop u.rest bs)) r → IfOk r (λ e. e.number ≡ u.number) → IfOk r (λ e. user_may_have last e.number ≡ true) → FindsUser last u bs (result_ok r)
-user_at last u bs (Ok e) room read number named = ((number, ap (drop 4) read.0), named)
-user_at last u bs (Err Size) room read number named =
-    let part : length (take 80 (drop u.rest bs)) ≡ 80 = length-take-le 80 (drop u.rest bs) (omega (arith, length-drop u.rest bs)) in
-    absurd (read (omega (arith, part)))
-user_at last u bs (Err Range) room read number named = λ _. read.1
+pub user_at : (last : ℕ) (u : NewUser) (bs rest : List ℕ) (r : Result (Entry User) Misfit) → rest ≡ take 80 (drop u.rest bs) → length rest ≡ 80 → Reads 84 user_bytes (user_ranges last) (four u.number ++ rest) r → IfOk r (λ e. e.number ≡ u.number) → IfOk r (λ e. user_may_have last e.number ≡ true) → FindsUser last u bs (result_ok r)
+user_at last u bs rest (Ok e) is long read number named = ((number, ap (drop 4) read.0 ∙ is), named)
+user_at last u bs rest (Err Size) is long read number named = absurd (read (omega arith))
+user_at last u bs rest (Err Range) is long read number named = λ _. ap (λ l. user_ranges last (four u.number ++ l)) (sym is) ∙ read.1
 
 behind_is : (u : NewUser) (bs : List ℕ) (e : Entry User) → LiesBehind u bs e → user_bytes e ≡ four u.number ++ take 80 (drop u.rest bs)
 behind_is u bs e lies = λ i. four (lies.0 i) ++ lies.1 i

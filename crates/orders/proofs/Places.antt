@@ -1,29 +1,15 @@
 -- The records that lie at a place, one by one.
-use Rattle.std.proofs.Common.{◌≡◌, ℕ, zero, suc, ◌+◌, ◌*◌, ◌<◌, ◌≤◌, Bool, true, List, [], ◌∷◌, ◌++◌, length, take, drop, IfOk, Some, None, Ok, Err, Option, Result, sym, refl, ap, ◌∙◌, ⊎_elim, mul-le-mul_left, mul-zero, mul-suc, arith}
-use Rattle.std.specs.Result.{result_ok}
+use Rattle.std.proofs.Common.{◌≡◌, ℕ, zero, suc, ◌+◌, ◌*◌, ◌<◌, ◌≤◌, Bool, true, List, [], ◌∷◌, ◌++◌, length, take, drop, Some, None, Option, sym, refl, ap, ◌∙◌, ⊎_elim, mul-le-mul_left, mul-zero, mul-suc, arith}
 use Rattle.std.specs.List.{flat_map, AllByRecursion, slice_get}
-use Rattle.std.proofs.lemmas.List.{append_assoc, length-drop, length-take, length-take-le, take_at, drop_at, drop-drop, take-append-drop}
+use Rattle.std.proofs.lemmas.List.{append_assoc, length-drop, length-take, take_at, drop_at, drop-drop, take-append-drop}
 use Rattle.std.proofs.lemmas.Option.{slice_get_past}
 use Rattle.std.proofs.lemmas.Bool.{true≢false, cases_lt}
 use Rattle.tables.specs.declared.entry.Entry.{Entry}
-use Rattle.records.specs.declared.record.Misfit.{Misfit}
-use Rattle.records.specs.declared.record.Misfit.TheVariants.{Size, Range}
-use Rattle.records.specs.Codec.{Reads}
 use Rattle.orders.proofs.Contents.{joined_sized}
 use Rattle.orders.specs.declared.order.Place.{Place}
 use Rattle.orders.specs.Orders.{Lies, record_bytes, Finds, FindsAll}
 
 module _ {B : Type 0} (encoded : Entry B → List ℕ) (size : ℕ) (ranges : List ℕ → Bool) (numbers : ℕ → Bool) where
-  -- a part that was there, read as a record
-  pub found_at : (p : Place) (bs part : List ℕ) (k : ℕ) (r : Result (Entry B) Misfit) → k < p.count → part ≡ record_bytes size p bs k → Reads size encoded ranges part r → IfOk r (λ e. numbers e.number ≡ true) → Finds encoded size ranges numbers p bs k (result_ok r)
-  found_at p bs part k (Ok e) turn is read named = (turn, read.0 ∙ is, sym (ap ranges is) ∙ read.1, named)
-  found_at p bs part k (Err Size) turn is read named = λ _ room. absurd (read (ap length is ∙ length-take-le size (drop (p.start + size * k) bs) (omega (arith, length-drop (p.start + size * k) bs))))
-  found_at p bs part k (Err Range) turn is read named = λ _ _. sym (ap ranges is) ∙ read.1
-
-  -- a part that was not there
-  pub not_there : (p : Place) (bs : List ℕ) (k : ℕ) → (k < p.count → length bs < p.start + size * k + size) → Finds encoded size ranges numbers p bs k None
-  not_there p bs k short = λ turn room. let few = short turn in absurd (omega arith)
-
   module _ (sized : (e : Entry B) → length (encoded e) ≡ size) where
     -- the record of a turn among records that lie one behind the other
     turn_of : (P : Entry B → Type 0) (es : List (Entry B)) (rest : List ℕ) (k : ℕ) → k < length es → AllByRecursion P es → (e : Entry B) × (slice_get es k ≡ Some e) × (take size (drop (size * k) (flat_map encoded es ++ rest)) ≡ encoded e) × P e

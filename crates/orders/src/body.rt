@@ -4,7 +4,15 @@ ghost use Rattle.orders.specs.Bodies.{size_of, long_right};
 
 use crate::command::Command;
 use crate::size::BodySize;
-use records::limits::{GROUP_SIZE, HOLIDAY_SIZE, TIME_SET_SIZE, ZONE_SIZE};
+use records::limits::{
+    CARD_SIZE, GROUP_SIZE, HOLIDAY_SIZE, NUMBER_SIZE, TIME_SET_SIZE, USER_SIZE, ZONE_SIZE,
+};
+
+// The byte OVERWRITE stands behind a user's number.
+const OVERWRITE_SIZE: usize = 1;
+
+// The number of every record but a user has one byte.
+const RECORD_NUMBER_SIZE: usize = 1;
 
 impl Command {
     pub fn body_size(self) -> BodySize
@@ -15,16 +23,16 @@ impl Command {
             Command::PutZones => BodySize::Counted(ZONE_SIZE),
             Command::PutGroups => BodySize::Counted(GROUP_SIZE),
             Command::PutHolidays => BodySize::Counted(HOLIDAY_SIZE),
-            Command::RegisterUser => BodySize::Fixed(85),
-            Command::QueryCard => BodySize::Fixed(8),
-            Command::DeleteUser | Command::QueryUser | Command::ReadUser => BodySize::Fixed(4),
+            Command::RegisterUser => BodySize::Fixed(USER_SIZE + OVERWRITE_SIZE),
+            Command::QueryCard => BodySize::Fixed(CARD_SIZE),
+            Command::DeleteUser | Command::QueryUser | Command::ReadUser => BodySize::Fixed(NUMBER_SIZE),
             Command::DeleteTimeSet
             | Command::ReadTimeSet
             | Command::DeleteZone
             | Command::ReadZone
             | Command::DeleteGroup
             | Command::ReadGroup
-            | Command::DeleteHoliday => BodySize::Fixed(1),
+            | Command::DeleteHoliday => BodySize::Fixed(RECORD_NUMBER_SIZE),
             _ => BodySize::Fixed(0),
         }
     }

@@ -11,6 +11,7 @@ pub struct Heading {
 }
 
 impl Heading {
+    // The command is a byte, since a reply repeats whatever byte the frame had, also one that no command has.
     pub fn new(tid: u16, outcome: u8, command: u8, mac: [u8; 6]) -> Heading
         ensures tid { result.tid ≡ tid }
         ensures result { result.result ≡ outcome }

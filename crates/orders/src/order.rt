@@ -11,6 +11,7 @@ use records::{Record, User};
 use tables::entry::Entry;
 
 // Where the records of an order lie in the bytes beside it, one behind the other, and how many there are.
+// An order names places and borrows no bytes, so that it can be kept beside the line that owns them.
 #[derive(Clone, Copy, PartialEq, Eq, Debug)]
 pub struct Place {
     pub start: usize,
@@ -18,7 +19,7 @@ pub struct Place {
 }
 
 // A user to be registered: its number, whether it may replace one that stands, and where the bytes behind its
-// number begin.
+// number begin. A place, as in `Place`.
 #[derive(Clone, Copy, PartialEq, Eq, Debug)]
 pub struct NewUser {
     pub number: u32,
@@ -35,11 +36,7 @@ impl Place {
             return None;
         }
         let start = self.start.checked_add(size.checked_mul(turn)?)?;
-        let end = start.checked_add(size)?;
-        if bytes.len() < end {
-            return None;
-        }
-        Some(&bytes[start..end])
+        bytes.get(start..start.checked_add(size)?)
     }
 
     // The record of a turn, the first being 0, if its bytes are there and its fields in range.
@@ -64,10 +61,8 @@ impl NewUser {
         ensures all { (e : TableEntry Person) → LiesBehind self.now bytes.now e → user_may_have last_user e.number ≡ true → result ≡ Some e }
     {
         let end = self.rest.checked_add(REST_SIZE)?;
-        if bytes.len() < end {
-            return None;
-        }
-        User::with_number(last_user, self.number, &bytes[self.rest..end]).ok()
+        let rest = bytes.get(self.rest..end)?;
+        User::with_number(last_user, self.number, rest).ok()
     }
 }
 
