@@ -5,7 +5,7 @@ ghost use Rattle.calendar.specs.Dates.{minute_number};
 use calendar::Minute;
 
 // Ten bytes that are not looked at and stay as they came.
-#[derive(Clone, Copy)]
+#[derive(Clone, Copy, PartialEq, Eq, Debug)]
 pub struct Kept {
     pub(crate) bytes: [u8; 10],
     ghost ten: { length bytes ≡ 10 },
@@ -19,6 +19,7 @@ pub struct Validity {
     ghost ordered: { minute_number start ≤ minute_number end },
 }
 
+// Not a Result or an Option: an unused window is no error, and keeps its ten bytes.
 #[derive(Clone, Copy)]
 pub enum Window {
     Unused(Kept),
