@@ -1,7 +1,7 @@
 -- What a pass over the groups comes to.
-use Rattle.std.proofs.Common.{◌≡◌, ℕ, ◌+◌, ◌<◌, ◌≤◌, Bool, true, false, cond, not, ◌||◌, List, [], ◌∷◌, length, get_or, drop, sym, refl, ap, ◌∙◌}
-use Rattle.std.proofs.lemmas.List.{at_drop_more, at_drop_all}
-use Rattle.std.proofs.lemmas.Bool.{cond-true, cond-false, true≢false}
+use Rattle.std.proofs.Common.{◌≡◌, ℕ, ◌≤◌, Bool, true, false, cond, not, ◌||◌, List, [], ◌∷◌, length, drop, sym, refl, ap, ◌∙◌}
+use Rattle.std.proofs.lemmas.List.{at_drop_all}
+use Rattle.std.proofs.lemmas.Bool.{true≢false}
 use Rattle.doors.specs.declared.event.Event.{Event}
 use Rattle.doors.specs.declared.event.Event.TheVariants.{Admitted, DoorNotOpened, NotNow}
 use Rattle.calendar.specs.declared.minute.Minute.{Minute}
@@ -15,20 +15,6 @@ module _ (opens admits : ℕ → Bool) where
   abbrev pub decided : Event → List ℕ → Event
   decided e [] = e
   decided e (n ∷ ns) = cond (admits n) Admitted (decided (cond (opens n) NotNow e) ns)
-
-  module _ (ns : List ℕ) (i : ℕ) (within : i < length ns) (e : Event) where
-    -- the next group admits, does not open, or opens and does not admit
-    pub decided_admits : admits (get_or ns i 0) ≡ true → decided e (drop i ns) ≡ Admitted
-    decided_admits so = at_drop_more (decided e) ns i 0 within ∙ cond-true _ _ _ so
-
-    decided_more : admits (get_or ns i 0) ≡ false → decided e (drop i ns) ≡ decided (cond (opens (get_or ns i 0)) NotNow e) (drop (i + 1) ns)
-    decided_more fails = at_drop_more (decided e) ns i 0 within ∙ cond-false _ _ _ fails
-
-    pub decided_shut : (admits (get_or ns i 0) ≡ false) × (opens (get_or ns i 0) ≡ false) → decided e (drop i ns) ≡ decided e (drop (i + 1) ns)
-    decided_shut fails = decided_more fails.0 ∙ ap (λ (b : Bool). decided (cond b NotNow e) (drop (i + 1) ns)) fails.1
-
-    pub decided_open : admits (get_or ns i 0) ≡ false → opens (get_or ns i 0) ≡ true → decided e (drop i ns) ≡ decided NotNow (drop (i + 1) ns)
-    decided_open fails so = decided_more fails ∙ ap (λ (b : Bool). decided (cond b NotNow e) (drop (i + 1) ns)) so
 
   one_more : (a o ads ops : Bool) (e : Event) → cond a Admitted (cond ads Admitted (cond ops NotNow (cond o NotNow e))) ≡ cond (a || ads) Admitted (cond (o || ops) NotNow e)
   one_more true o ads ops e = refl
@@ -57,7 +43,3 @@ module _ (s : Standing) (door : ℕ) (x : Minute) (ns : List ℕ) where
   -- what the pass has come to where it ends
   pub ended : (i : ℕ) (e : Event) → length ns ≤ i → decided (group_opens s door) (group_admits s door x) e (drop i ns) ≡ decided (group_opens s door) (group_admits s door x) DoorNotOpened ns → e ≡ groups_event s ns door x
   ended i e over so_far = sym (at_drop_all (decided (group_opens s door) (group_admits s door x) e) ns i over) ∙ so_far ∙ decided_all
-
-  -- and where a group admits
-  pub admitted : (i : ℕ) (e : Event) → i < length ns → decided (group_opens s door) (group_admits s door x) e (drop i ns) ≡ decided (group_opens s door) (group_admits s door x) DoorNotOpened ns → group_admits s door x (get_or ns i 0) ≡ true → Admitted ≡ groups_event s ns door x
-  admitted i e within so_far so = sym (decided_admits (group_opens s door) (group_admits s door x) ns i within e so) ∙ so_far ∙ decided_all

@@ -4,3 +4,4 @@ pub mod Deciding
 pub mod Grounding
 pub mod Lowest
 pub mod Meanings
+pub mod Searching

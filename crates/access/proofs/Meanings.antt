@@ -1,15 +1,12 @@
 -- What a number of a time set, a zone or a group comes to.
-use Rattle.std.proofs.Common.{◌≡◌, ℕ, zero, suc, ◌+◌, ◌<◌, ◌≤◌, Bool, true, false, ◌&&◌, ◌||◌, List, [], ◌∷◌, length, get_or, drop, Some, None, Option, sym, refl, ap, ◌∙◌, inl, inr, ⊎_elim, arith}
-use Rattle.std.proofs.lemmas.List.{at_drop_more}
-use Rattle.std.proofs.lemmas.Bool.{cases_eq, eq-eqb, ne_eqb, cond-true, cond-false, and_parts, and_left, or_cases, or_left, or_right}
+use Rattle.std.proofs.Common.{◌≡◌, ℕ, zero, suc, ◌<◌, ◌≤◌, Bool, true, List, [], ◌∷◌, length, get_or, Some, None, Option, sym, refl, ap, ◌∙◌, inl, inr, ⊎_elim, arith}
+use Rattle.std.proofs.lemmas.Bool.{cases_eq, eq-eqb, ne_eqb, cond-true, cond-false, and_parts, or_cases, or_left, or_right}
 use Rattle.tables.specs.declared.entry.Entry.{Entry}
 use Rattle.tables.specs.Maps.{Map}
 use Rattle.calendar.specs.declared.minute.Minute.{Minute}
-use Rattle.records.specs.declared.group.Group.{Group}
 use Rattle.records.specs.declared.row.Row.{Row}
-use Rattle.records.specs.declared.zone.Zone.{Zone}
 use Rattle.access.specs.Standing.{Standing, named, passes, meant}
-use Rattle.access.specs.Covering.{some_of, set_covers, sets_at, row_of, row_sets, zone_covers, opens, zone_for, group_opens, group_admits}
+use Rattle.access.specs.Covering.{some_of, sets_at, opens, group_opens, group_admits}
 
 module _ {B : Type 0} (f : Map B) (test : B → Bool) where
   pub meant_always : (n : ℕ) → n ≡ 1 → meant f test n ≡ true
@@ -22,14 +19,6 @@ pub some_of_weaker : (p q : ℕ → Bool) → ((n : ℕ) → p n ≡ true → q 
 some_of_weaker p q weaker [] so = so
 some_of_weaker p q weaker (n ∷ ns) so =
     elim (or_cases (p n) (some_of p ns) so) [ inl here ↦ or_left (q n) (some_of q ns) (weaker n here) | inr later ↦ or_right (q n) (some_of q ns) (some_of_weaker p q weaker ns later) ]
-
--- a pass over numbers, at the next one
-module _ (test : ℕ → Bool) (ns : List ℕ) (i : ℕ) (within : i < length ns) where
-  pub some_of_here : test (get_or ns i 0) ≡ true → some_of test (drop i ns) ≡ true
-  some_of_here so = at_drop_more (some_of test) ns i 0 within ∙ or_left _ _ so
-
-  pub some_of_more : test (get_or ns i 0) ≡ false → some_of test (drop i ns) ≡ some_of test (drop (i + 1) ns)
-  some_of_more fails = at_drop_more (some_of test) ns i 0 within ∙ ap (λ (b : Bool). b || some_of test (drop (i + 1) ns)) fails
 
 module _ {B : Type 0} (p q : B → Bool) (weaker : (b : B) → p b ≡ true → q b ≡ true) where
   passes_weaker : (o : Option (Entry B)) → passes p o ≡ true → passes q o ≡ true
@@ -55,34 +44,6 @@ sets_past [] i past = refl
 sets_past (q ∷ rows) zero past = absurd (omega arith)
 sets_past (q ∷ rows) (suc i) past = sets_past rows i (omega arith)
 
-module _ (s : Standing) (x : Minute) where
-  pub zone_none : (n : ℕ) → (n ≡ 1 → ⊥) → None ≡ named s.zones n → zone_covers s x n ≡ false
-  zone_none n other is = meant_passes s.zones _ n None other is
-
-  -- the row of the day is looked at
-  pub zone_row : (n : ℕ) (z : Entry Zone) (day : ℕ) (sets : List ℕ) → (n ≡ 1 → ⊥) → Some z ≡ named s.zones n → day ≡ row_of s x.date → sets ≡ row_sets z.body day → zone_covers s x n ≡ some_of (set_covers s x) sets
-  zone_row n z day sets other is day_is sets_are =
-      meant_passes s.zones _ n (Some z) other is
-      ∙ ap (λ k. some_of (set_covers s x) (row_sets z.body k)) (sym day_is)
-      ∙ ap (some_of (set_covers s x)) (sym sets_are)
-
 module _ (s : Standing) (door : ℕ) (x : Minute) where
   pub admits_opens : (n : ℕ) → group_admits s door x n ≡ true → group_opens s door n ≡ true
   admits_opens n so = meant_weaker _ (opens door) (λ g both. (and_parts _ _ both).0) s.groups n so
-
-  module _ (n : ℕ) (other : n ≡ 1 → ⊥) where
-    pub group_none : None ≡ named s.groups n → (group_admits s door x n ≡ false) × (group_opens s door n ≡ false)
-    group_none is = (meant_passes s.groups _ n None other is, meant_passes s.groups _ n None other is)
-
-    module _ (e : Entry Group) (is : Some e ≡ named s.groups n) where
-      pub group_shut : opens door e.body ≡ false → (group_admits s door x n ≡ false) × (group_opens s door n ≡ false)
-      group_shut shut = (meant_passes s.groups _ n (Some e) other is ∙ and_left _ _ shut, meant_passes s.groups _ n (Some e) other is ∙ shut)
-
-      pub group_open : opens door e.body ≡ true → group_opens s door n ≡ true
-      group_open opened = meant_passes s.groups _ n (Some e) other is ∙ opened
-
-      pub group_zone : opens door e.body ≡ true → (z : ℕ) → z ≡ zone_for door e.body → group_admits s door x n ≡ zone_covers s x z
-      group_zone opened z zone =
-          meant_passes s.groups _ n (Some e) other is
-          ∙ ap (λ (b : Bool). b && zone_covers s x (zone_for door e.body)) opened
-          ∙ ap (zone_covers s x) (sym zone)

@@ -3,7 +3,7 @@ use Rattle.std.specs.Prelude.{ℕ, zero, suc, ◌-◌, ◌/◌, ◌%◌, ◌^◌
 use Rattle.calendar.specs.declared.date.Date.{Date}
 use Rattle.calendar.specs.declared.minute.Minute.{Minute}
 use Rattle.calendar.specs.declared.week.Weekday.{Weekday}
-use Rattle.calendar.specs.declared.week.Weekday.TheVariants.{Monday, Tuesday, Wednesday, Thursday, Friday, Saturday, Sunday}
+use Rattle.calendar.specs.Week.{weekday_number}
 use Rattle.calendar.specs.Days.{minute_of_day}
 use Rattle.calendar.specs.Dates.{weekday_of}
 use Rattle.records.specs.declared.group.Group.{Group}
@@ -30,13 +30,7 @@ set_covers s x n = meant s.time_sets (times_include x) n
 
 -- Monday to Sunday, and the holiday row behind them
 abbrev pub weekday_row : Weekday → ℕ
-weekday_row Monday = 0
-weekday_row Tuesday = 1
-weekday_row Wednesday = 2
-weekday_row Thursday = 3
-weekday_row Friday = 4
-weekday_row Saturday = 5
-weekday_row Sunday = 6
+weekday_row d = weekday_number d
 
 abbrev pub holiday_row : ℕ
 holiday_row = 7

@@ -1,7 +1,7 @@
 -- The records that stand in five tables, and what a number names among them.
 use Rattle.std.specs.Prelude.{◌≡◌, ℕ, zero, suc, ◌<◌, Bool, true, false, cond, Some, None, Option, ◌==◌, nat_lt}
 use Rattle.tables.specs.declared.entry.Entry.{Entry}
-use Rattle.tables.specs.Maps.{Map}
+use Rattle.tables.specs.Maps.{Map, View}
 use Rattle.records.specs.declared.group.Group.{Group}
 use Rattle.records.specs.declared.holiday.Holiday.{Holiday}
 use Rattle.records.specs.declared.time_set.TimeSet.{TimeSet}
@@ -48,15 +48,32 @@ module _ {B : Type 0} where
   lowest f test zero = None
   lowest f test (suc n) = or_else (lowest f test n) (kept_if test (f n))
 
--- what stands in five tables, whose makes say their maps and their last numbers
+-- five tables, by what each means
+pub record Views : Type 0 where
+  pub users : View User
+  pub time_sets : View TimeSet
+  pub zones : View Zone
+  pub groups : View Group
+  pub holidays : View Holiday
+
+abbrev pub standing : Views → Standing
+standing v = record {
+  users = v.users.at;
+  users_end = suc v.users.high;
+  time_sets = v.time_sets.at;
+  zones = v.zones.at;
+  groups = v.groups.at;
+  holidays = v.holidays.at;
+  holidays_end = suc v.holidays.high;
+}
+
+-- the five tables of the code, whose makes say what each means
 module _ {Mk U T Z G H : Type 0} where
-  abbrev pub standing : (U → Map User) → (U → ℕ) → (T → Map TimeSet) → (Z → Map Zone) → (G → Map Group) → (H → Map Holiday) → (H → ℕ) → Tables Mk U T Z G H → Standing
-  standing users_at users_high time_sets_at zones_at groups_at holidays_at holidays_high t = record {
-    users = users_at t.users;
-    users_end = suc (users_high t.users);
-    time_sets = time_sets_at t.time_sets;
-    zones = zones_at t.zones;
-    groups = groups_at t.groups;
-    holidays = holidays_at t.holidays;
-    holidays_end = suc (holidays_high t.holidays);
+  abbrev pub views_by : (U → View User) → (T → View TimeSet) → (Z → View Zone) → (G → View Group) → (H → View Holiday) → Tables Mk U T Z G H → Views
+  views_by users time_sets zones groups holidays t = record {
+    users = users t.users;
+    time_sets = time_sets t.time_sets;
+    zones = zones t.zones;
+    groups = groups t.groups;
+    holidays = holidays t.holidays;
   }

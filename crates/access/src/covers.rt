@@ -1,46 +1,50 @@
-// Numbers that name records, and whether a time set covers a minute.
+// What a number means where a record names others, and whether a time set covers a minute.
 ghost use Rattle.std.specs.Prelude.{◌≡◌};
-ghost use Rattle.std.specs.Option.{option_map};
-ghost use Rattle.access.specs.Standing.{named, meant};
+ghost use Rattle.access.specs.Standing.{meant};
 ghost use Rattle.access.specs.Covering.{times_include};
+ghost use Rattle.access.specs.Meant.{Means};
 
 use calendar::Minute;
-use records::TimeSet;
+use records::{Named, TimeSet};
 use tables::entry::Entry;
 use tables::table::Table;
 
-// Numbers 0 and 1 of a time set, a zone or a group are built in.
-pub(crate) const NEVER: u8 = 0;
+// What a number comes to: never, always, or as this record says.
+pub enum Meant<R> {
+    Never,
+    Always,
+    As(R),
+}
 
-pub(crate) const ALWAYS: u8 = 1;
-
-// The record that a number names. The built-in numbers name none.
-pub(crate) fn look_up<T: Table>(table: &T, number: u8) -> Option<&Entry<T::Body>>
-    ensures { option_map (λ x. x.now) result ≡ named (T.Table.at table.now) number }
+// Where no record stands under a number that names one, it is never.
+pub(crate) fn look_up<T: Table>(table: &T, number: u8) -> Meant<&Entry<T::Body>>
+    ensures { Means (T.Table.view table.now).at number result }
 {
-    if number <= ALWAYS {
-        return None;
+    match Named::from(number) {
+        Named::Never => Meant::Never,
+        Named::Always => Meant::Always,
+        Named::Record(number) => match table.get(u32::from(number)) {
+            Some(entry) => Meant::As(entry),
+            None => Meant::Never,
+        },
     }
-    table.get(number as u32)
 }
 
 // Do the times of the set include the minute?
 fn includes(set: &TimeSet, minute: &Minute) -> bool
     ensures { result ≡ times_include minute.now set.now }
 {
-    let asked = minute.time().minute_of_day();
-    set.start().minute_of_day() <= asked && asked <= set.end().minute_of_day()
+    let time = minute.time();
+    set.start() <= time && time <= set.end()
 }
 
 // Does the time set of that number cover the minute?
 pub fn set_covers<T: Table<Body = TimeSet>>(time_sets: &T, number: u8, minute: &Minute) -> bool
-    ensures { result ≡ meant (T.Table.at time_sets.now) (times_include minute.now) number }
+    ensures { result ≡ meant (T.Table.view time_sets.now).at (times_include minute.now) number }
 {
-    if number == ALWAYS {
-        return true;
-    }
     match look_up(time_sets, number) {
-        Some(set) => includes(&set.body, minute),
-        None => false,
+        Meant::Never => false,
+        Meant::Always => true,
+        Meant::As(set) => includes(&set.body, minute),
     }
 }

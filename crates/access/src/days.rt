@@ -1,9 +1,8 @@
 // Which row of a zone counts on a day.
 ghost use Rattle.std.specs.Prelude.{◌≡◌, suc};
-ghost use Rattle.access.specs.Covering.{falls_on, weekday_row, holiday_among, row_among, row_sets};
+ghost use Rattle.access.specs.Covering.{falls_on, holiday_among, row_among, row_sets};
 
-use crate::search::{Question, first_yes};
-use calendar::{Date, Weekday};
+use calendar::{Date, MonthDay};
 use records::{Holiday, Zone};
 use tables::table::Table;
 
@@ -11,50 +10,26 @@ use tables::table::Table;
 const HOLIDAY_ROW: usize = 7;
 
 // Does the holiday fall on this day?
-#[derive(Drop)]
-struct FallsOn {
-    date: Date,
-}
-
-impl Question for FallsOn {
-    type Body = Holiday;
-
-    ghost asked = { λ q. falls_on q.date };
-
-    fn ask(&self, holiday: &Holiday) -> bool {
-        let day = holiday.day();
-        day.month() == self.date.month() && day.day() == self.date.day()
-    }
+fn falls_on(holiday: &Holiday, date: &Date) -> bool
+    ensures { result ≡ falls_on date.now holiday.now }
+{
+    holiday.day() == MonthDay::from(*date)
 }
 
 pub fn is_holiday<T: Table<Body = Holiday>>(holidays: &T, date: &Date) -> bool
-    ensures { result ≡ holiday_among (T.Table.at holidays.now) (suc (T.Table.high holidays.now)) date.now }
+    ensures { result ≡ holiday_among (T.Table.view holidays.now).at (suc (T.Table.view holidays.now).high) date.now }
 {
-    first_yes(holidays, &FallsOn { date: *date }).is_some()
-}
-
-fn weekday_row(day: Weekday) -> usize
-    ensures { result ≡ weekday_row day }
-{
-    match day {
-        Weekday::Monday => 0,
-        Weekday::Tuesday => 1,
-        Weekday::Wednesday => 2,
-        Weekday::Thursday => 3,
-        Weekday::Friday => 4,
-        Weekday::Saturday => 5,
-        Weekday::Sunday => 6,
-    }
+    holidays.iter().any(|holiday| falls_on(&holiday.body, date))
 }
 
 // The row of the day: the holiday row on a holiday, else that of the weekday.
 pub fn row_of<T: Table<Body = Holiday>>(holidays: &T, date: &Date) -> usize
-    ensures { result ≡ row_among (T.Table.at holidays.now) (suc (T.Table.high holidays.now)) date.now }
+    ensures { result ≡ row_among (T.Table.view holidays.now).at (suc (T.Table.view holidays.now).high) date.now }
 {
     if is_holiday(holidays, date) {
         HOLIDAY_ROW
     } else {
-        weekday_row(date.weekday())
+        usize::from(date.weekday())
     }
 }
 

@@ -8,6 +8,7 @@ use crate::answer::Answer;
 use crate::cards::holder;
 use crate::groups::decide;
 use crate::makes::{Makes, Tables};
+use crate::site::Site;
 use calendar::Minute;
 use doors::{Door, Event};
 use records::{Status, User, Window};
@@ -16,21 +17,20 @@ use records::{Status, User, Window};
 const NOBODY: u32 = 0;
 
 // Both ends belong to the window.
+#[tactic(auto, using(calendar::proofs::Order::minute_le))]
 fn in_date(window: &Window, minute: &Minute) -> bool
     ensures { result ≡ in_date window.now minute.now }
 {
     match window {
         Window::Unused(_) => true,
-        Window::Used(validity) => {
-            validity.start().not_after(minute) && minute.not_after(&validity.end())
-        }
+        Window::Used(validity) => { validity.start() <= *minute && *minute <= validity.end() }
     }
 }
 
 fn user_event<M: Makes>(tables: &Tables<M>, user: &User, door: Door, minute: &Minute) -> Event
-    ensures { result ≡ user_event (standing M.Users.Table.at M.Users.Table.high M.TimeSets.Table.at M.Zones.Table.at M.Groups.Table.at M.Holidays.Table.at M.Holidays.Table.high tables.now) user.now door.number minute.now }
+    ensures { result ≡ user_event (standing (⟦<Tables<M> as Site>⟧.views tables.now)) user.now door.number minute.now }
 {
-    if let Status::Off = user.status() {
+    if user.status() == Status::Off {
         return Event::UserOff;
     }
     if !in_date(&user.window(), minute) {
@@ -40,8 +40,8 @@ fn user_event<M: Makes>(tables: &Tables<M>, user: &User, door: Door, minute: &Mi
 }
 
 pub fn answer<M: Makes>(tables: &Tables<M>, card: u64, door: Door, minute: &Minute) -> Answer
-    ensures value { result ≡ answered (standing M.Users.Table.at M.Users.Table.high M.TimeSets.Table.at M.Zones.Table.at M.Groups.Table.at M.Holidays.Table.at M.Holidays.Table.high tables.now) card door.number minute.now }
-    ensures laws { AccessLaws (standing M.Users.Table.at M.Users.Table.high M.TimeSets.Table.at M.Zones.Table.at M.Groups.Table.at M.Holidays.Table.at M.Holidays.Table.high tables.now) card door.number minute.now result }
+    ensures value { result ≡ answered (standing (⟦<Tables<M> as Site>⟧.views tables.now)) card door.number minute.now }
+    ensures laws { AccessLaws (standing (⟦<Tables<M> as Site>⟧.views tables.now)) card door.number minute.now result }
 {
     match holder(&tables.users, card) {
         Some(found) => Answer {

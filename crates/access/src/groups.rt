@@ -4,22 +4,20 @@ ghost use Rattle.access.specs.Standing.{standing};
 ghost use Rattle.access.specs.Covering.{opens, zone_for};
 ghost use Rattle.access.specs.Events.{groups_event};
 
-use crate::covers::{ALWAYS, NEVER, look_up, set_covers};
+use crate::covers::{Meant, look_up, set_covers};
 use crate::days::{row_of, row_sets};
 use crate::makes::{Makes, Tables};
+use crate::site::Site;
 use calendar::Minute;
 use doors::{Door, Event};
 use records::Group;
-
-// The group that opens every door at every minute.
-const EVERY_DOOR: u8 = ALWAYS;
 
 // The door's place among the doors of a group: door 1 has the place 0.
 fn place_of(door: Door) -> u8
     ensures place { result ≡ door.number - 1 }
     ensures bound { result < 8 }
 {
-    door.number() - 1
+    u8::from(door) - 1
 }
 
 fn opens(group: &Group, door: Door) -> bool
@@ -31,37 +29,35 @@ fn opens(group: &Group, door: Door) -> bool
 fn zone_for(group: &Group, door: Door) -> u8
     ensures { result ≡ zone_for door.number group.now }
 {
-    match group.zone(place_of(door) as usize) {
-        Some(zone) => zone,
-        None => NEVER,
-    }
+    group.zones()[usize::from(place_of(door))]
 }
 
 // Does one of the groups open the door, and does one admit at this minute?
 pub fn decide<M: Makes>(tables: &Tables<M>, groups: &[u8], door: Door, minute: &Minute) -> Event
-    ensures { result ≡ groups_event (standing M.Users.Table.at M.Users.Table.high M.TimeSets.Table.at M.Zones.Table.at M.Groups.Table.at M.Holidays.Table.at M.Holidays.Table.high tables.now) groups.now door.number minute.now }
+    ensures { result ≡ groups_event (standing (⟦<Tables<M> as Site>⟧.views tables.now)) groups.now door.number minute.now }
 {
     let day = row_of(&tables.holidays, &minute.date());
     let mut event = Event::DoorNotOpened;
     'groups: for number in groups {
-        if *number == EVERY_DOOR {
-            event = Event::Admitted;
-            break;
-        }
-        let Some(group) = look_up(&tables.groups, *number) else {
-            continue;
+        let group = match look_up(&tables.groups, *number) {
+            Meant::Never => continue,
+            Meant::Always => {
+                event = Event::Admitted;
+                break;
+            }
+            Meant::As(group) => group,
         };
         if !opens(&group.body, door) {
             continue;
         }
         event = Event::NotNow;
-        let named = zone_for(&group.body, door);
-        if named == ALWAYS {
-            event = Event::Admitted;
-            break;
-        }
-        let Some(zone) = look_up(&tables.zones, named) else {
-            continue;
+        let zone = match look_up(&tables.zones, zone_for(&group.body, door)) {
+            Meant::Never => continue,
+            Meant::Always => {
+                event = Event::Admitted;
+                break;
+            }
+            Meant::As(zone) => zone,
         };
         for set in row_sets(&zone.body, day) {
             if set_covers(&tables.time_sets, *set, minute) {

@@ -8,7 +8,8 @@ pub mod days;
 pub mod events;
 pub mod groups;
 pub mod makes;
-mod search;
+pub mod site;
 
 pub use answer::Answer;
 pub use makes::{Makes, Tables};
+pub use site::Site;

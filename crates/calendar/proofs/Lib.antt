@@ -1,3 +1,4 @@
 pub mod Counting
 pub mod Following
+pub mod Order
 pub mod Same

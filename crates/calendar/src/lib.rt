@@ -2,15 +2,13 @@
 #![tactic(auto)]
 
 pub mod date;
-mod days;
 pub mod minute;
 pub mod moment;
 pub mod month_day;
 pub mod time_of_day;
-mod times;
 pub mod week;
 
-pub use date::Date;
+pub use date::{Date, FIRST_YEAR};
 pub use minute::Minute;
 pub use moment::Moment;
 pub use month_day::MonthDay;

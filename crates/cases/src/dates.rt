@@ -60,3 +60,18 @@ fn weekdays(rt: HostRuntime) -> Result<(), Fail> {
     assert!(rt; last.next().is_none());
     Ok(())
 }
+
+#[test]
+fn earlier_and_later(rt: HostRuntime) {
+    assert!(rt; Date::new(2023, 12, 31) < Date::new(2024, 1, 1));
+    assert!(rt; Date::new(2024, 2, 29) < Date::new(2024, 3, 1));
+    assert!(rt; TimeOfDay::new(8, 59) < TimeOfDay::new(9, 0));
+    assert!(rt; Moment::new(2024, 2, 29, 23, 59, 59) < Moment::new(2024, 3, 1, 0, 0, 0));
+    assert!(rt; MonthDay::new(2, 29) < MonthDay::new(3, 1));
+    assert_eq!(rt;
+        Date::new(2023, 3, 1).map(MonthDay::from),
+        MonthDay::new(3, 1)
+    );
+    assert_eq!(rt; usize::from(Weekday::Monday), 0);
+    assert_eq!(rt; usize::from(Weekday::Sunday), 6);
+}

@@ -8,7 +8,7 @@ fn shown(card: u64) -> Result<Entry, Fail> {
     let Some(moment) = Moment::new(2024, 2, 29, 17, 30, 59) else {
         return Err(Fail::new("no moment"));
     };
-    let Some(door) = Door::new(8) else {
+    let Ok(door) = Door::try_from(8) else {
         return Err(Fail::new("no door"));
     };
     Ok(Entry::new(

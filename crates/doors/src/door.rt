@@ -1,31 +1,49 @@
 // One of the eight doors.
-ghost use Rattle.std.specs.Prelude.{◌≡◌, true, false, MatchOption};
+ghost use Rattle.std.specs.Prelude.{◌≡◌, true, false, MatchResult};
 ghost use Rattle.doors.specs.Numbers.{door_number};
+
+use std::error::Error;
+use std::fmt;
 
 const FIRST_DOOR: u8 = 1;
 
 const LAST_DOOR: u8 = 8;
 
-#[derive(Clone, Copy)]
+#[derive(Clone, Copy, PartialEq, Eq, Debug)]
 pub struct Door {
     number: u8,
     ghost real: { door_number number ≡ true },
 }
 
-impl Door {
-    // The door of that number, if there is one.
-    pub fn new(number: u8) -> Option<Door>
-        ensures { MatchOption result (door_number number ≡ false) (λ d. d.number ≡ number) }
-    {
-        if number < FIRST_DOOR || LAST_DOOR < number {
-            return None;
-        }
-        Some(Door { number })
-    }
+// A number that no door has.
+#[derive(Clone, Copy, PartialEq, Eq, Debug)]
+pub struct NoDoor(pub u8);
 
-    pub fn number(&self) -> u8
-        ensures { result ≡ self.now.number }
-    {
-        self.number
+impl TryFrom<u8> for Door {
+    type Error = NoDoor;
+
+    ghost try_from_gives = { λ n r. MatchResult r (λ d. d.number ≡ n) (λ e. (e.0 ≡ n) × (door_number n ≡ false)) };
+
+    fn try_from(number: u8) -> Result<Door, NoDoor> {
+        if number < FIRST_DOOR || LAST_DOOR < number {
+            return Err(NoDoor(number));
+        }
+        Ok(Door { number })
     }
 }
+
+impl From<Door> for u8 {
+    ghost from_gives = { λ d n. n ≡ d.number };
+
+    fn from(door: Door) -> u8 {
+        door.number
+    }
+}
+
+impl fmt::Display for NoDoor {
+    fn fmt<W: fmt::Write>(&self, f: &mut fmt::Formatter<W>) -> fmt::Result {
+        write!(f, "no door has the number {}", self.0)
+    }
+}
+
+impl Error for NoDoor {}

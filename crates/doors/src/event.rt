@@ -18,11 +18,11 @@ pub enum Event {
     NotNow,
 }
 
-impl Event {
-    pub fn code(self) -> u8
-        ensures { result ≡ event_code self }
-    {
-        match self {
+impl From<Event> for u8 {
+    ghost from_gives = { λ e n. n ≡ event_code e };
+
+    fn from(event: Event) -> u8 {
+        match event {
             Event::Admitted => 0x00,
             Event::UnknownCard => 0x07,
             Event::UserOff => 0x08,

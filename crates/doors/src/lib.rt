@@ -5,6 +5,6 @@ pub mod direction;
 pub mod door;
 pub mod event;
 
-pub use direction::Direction;
-pub use door::Door;
+pub use direction::{Direction, NoDirection};
+pub use door::{Door, NoDoor};
 pub use event::Event;

@@ -1,12 +1,10 @@
 -- A change, tied to what an order brings.
-use Rattle.std.proofs.Common.{◌≡◌, ℕ, List, [], Some, None, Option, sym, refl, ap, ◌∙◌, subst, arith}
+use Rattle.std.proofs.Common.{◌≡◌, ℕ, List, Some, None, Option, sym, ap, ◌∙◌, subst, arith}
 use Rattle.journal.specs.declared.entry.Entry.{Entry as LogEntry}
 use Rattle.orders.specs.Meanings.{Meaning}
 use Rattle.execution.proofs.Every.{the_some}
-use Rattle.execution.specs.Deeds.{deed, View, Views, Edited, Done}
-
-pub unchanged : {B : Type 0} (v : View B) → Edited v v []
-unchanged v = record { low = refl; high = refl; map = λ n. refl }
+use Rattle.access.specs.Standing.{Views}
+use Rattle.execution.specs.Deeds.{deed, Done}
 
 pub done_as : {v w : Views} {log log' : List LogEntry} (m n : Meaning) → m ≡ n → Done (deed n.0 n.1) v w log log' → Done (deed m.0 m.1) v w log log'
 done_as {v} {w} {log} {log'} m n is done = subst (λ (x : Meaning). Done (deed x.0 x.1) v w log log') (sym is) done

@@ -1,33 +1,21 @@
 -- A test of each element, one by one.
-use Rattle.std.proofs.Common.{◌≡◌, ℕ, zero, suc, ◌+◌, ◌<◌, Bool, true, false, ◌&&◌, List, [], ◌∷◌, ◌++◌, length, get_or, drop, Some, None, Option, sym, refl, ap, ◌∙◌, arith}
-use Rattle.std.specs.List.{flat_map, slice_get}
+use Rattle.std.proofs.Common.{◌≡◌, ℕ, zero, suc, ◌+◌, ◌<◌, Bool, true, false, ◌&&◌, List, [], ◌∷◌, length, get_or, drop, Some, None, Option, sym, refl, ap, ◌∙◌, arith}
+use Rattle.std.specs.List.{flat_map, list_all, slice_get}
+use Rattle.std.proofs.lemmas.List.Folds.{list_all-append}
 use Rattle.std.proofs.lemmas.List.{drop_more}
 use Rattle.std.proofs.lemmas.Option.{slice_get-get_or}
-use Rattle.execution.specs.Naming.{every}
 
 module _ {A : Type 0} (test : A → Bool) where
-  pub every_more : (xs : List A) (i : ℕ) (d : A) → i < length xs → test (get_or xs i d) ≡ true → every test (drop i xs) ≡ every test (drop (i + 1) xs)
-  every_more xs i d within right = ap (every test) (drop_more xs i d within) ∙ ap (λ t. t && every test (drop (i + 1) xs)) right
+  pub all_more : (xs : List A) (i : ℕ) (d : A) → i < length xs → test (get_or xs i d) ≡ true → list_all test (drop i xs) ≡ list_all test (drop (i + 1) xs)
+  all_more xs i d within right = ap (list_all test) (drop_more xs i d within) ∙ ap (λ t. t && list_all test (drop (i + 1) xs)) right
 
-  pub every_fail : (xs : List A) (i : ℕ) (d : A) → i < length xs → test (get_or xs i d) ≡ false → every test (drop i xs) ≡ false
-  every_fail xs i d within wrong = ap (every test) (drop_more xs i d within) ∙ ap (λ t. t && every test (drop (i + 1) xs)) wrong
-
-  pub every_append : (xs ys : List A) → every test (xs ++ ys) ≡ (every test xs && every test ys)
-  every_append [] ys = refl
-  every_append (x ∷ xs) ys = ap (λ t. test x && t) (every_append xs ys) ∙ sym (and_assoc (test x) (every test xs) (every test ys))
-    where
-      and_assoc : (a b c : Bool) → ((a && b) && c) ≡ (a && (b && c))
-      and_assoc true b c = refl
-      and_assoc false b c = refl
+  pub all_fail : (xs : List A) (i : ℕ) (d : A) → i < length xs → test (get_or xs i d) ≡ false → list_all test (drop i xs) ≡ false
+  all_fail xs i d within wrong = ap (list_all test) (drop_more xs i d within) ∙ ap (λ t. t && list_all test (drop (i + 1) xs)) wrong
 
   -- lists one behind the other
-  pub joined_more : {B : Type 0} (f : B → List A) (xs : List B) (i : ℕ) (d : B) → i < length xs → every test (f (get_or xs i d)) ≡ true → every test (flat_map f (drop i xs)) ≡ every test (flat_map f (drop (i + 1) xs))
-  joined_more f xs i d within right =
-      ap (λ l. every test (flat_map f l)) (drop_more xs i d within) ∙ every_append (f (get_or xs i d)) (flat_map f (drop (i + 1) xs)) ∙ ap (λ t. t && every test (flat_map f (drop (i + 1) xs))) right
-
-  pub joined_fail : {B : Type 0} (f : B → List A) (xs : List B) (i : ℕ) (d : B) → i < length xs → every test (f (get_or xs i d)) ≡ false → every test (flat_map f (drop i xs)) ≡ false
-  joined_fail f xs i d within wrong =
-      ap (λ l. every test (flat_map f l)) (drop_more xs i d within) ∙ every_append (f (get_or xs i d)) (flat_map f (drop (i + 1) xs)) ∙ ap (λ t. t && every test (flat_map f (drop (i + 1) xs))) wrong
+  pub all_joined : {B : Type 0} (f : B → List A) (xs : List B) → list_all (λ x. list_all test (f x)) xs ≡ list_all test (flat_map f xs)
+  all_joined f [] = refl
+  all_joined f (x ∷ xs) = ap (λ b. list_all test (f x) && b) (all_joined f xs) ∙ sym (list_all-append test (f x) (flat_map f xs))
 
 abbrev pub the_some : {A : Type 0} → A → Option A → A
 the_some d (Some x) = x

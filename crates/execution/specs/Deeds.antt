@@ -1,16 +1,15 @@
 -- What an accepted order changes: the edits of one table, or the log.
-use Rattle.std.specs.Prelude.{◌≡◌, ℕ, List, [], ◌∷◌}
+use Rattle.std.specs.Prelude.{◌≡◌, List, [], ◌∷◌}
 use Rattle.tables.specs.declared.edit.Edit.{Edit}
 use Rattle.tables.specs.declared.edit.Edit.TheVariants.{Put, Remove, Clear}
 use Rattle.tables.specs.declared.entry.Entry.{Entry}
-use Rattle.tables.specs.Maps.{Map}
-use Rattle.tables.specs.Replays.{replay}
+use Rattle.tables.specs.Replays.{replay, Agree}
 use Rattle.records.specs.declared.group.Group.{Group}
 use Rattle.records.specs.declared.holiday.Holiday.{Holiday}
 use Rattle.records.specs.declared.time_set.TimeSet.{TimeSet}
 use Rattle.records.specs.declared.user.User.{User}
 use Rattle.records.specs.declared.zone.Zone.{Zone}
-use Rattle.access.specs.declared.makes.Tables.{Tables}
+use Rattle.access.specs.Standing.{Views}
 use Rattle.journal.specs.declared.entry.Entry.{Entry as LogEntry}
 use Rattle.orders.specs.declared.command.Command.{Command}
 use Rattle.orders.specs.declared.command.Command.TheVariants.{DeleteUser, ClearUsers, QueryUser, CountUsers, QueryCard, ListUsers, RegisterUser, ReadUser, PutTimeSets, DeleteTimeSet, ClearTimeSets, ReadTimeSet, PutZones, DeleteZone, ClearZones, ReadZone, PutGroups, DeleteGroup, ClearGroups, ReadGroup, PutHolidays, DeleteHoliday, ClearHolidays, ReadHolidays, CountLog, ReadLog, ClearLog, ListTimeSets, ListZones, ListGroups}
@@ -118,41 +117,11 @@ log_after (on_holidays es) log = log
 log_after log_cleared log = []
 log_after no_change log = log
 
--- a table, by its range and its map
-pub record View (B : Type 0) : Type 0 where
-  pub low : ℕ
-  pub high : ℕ
-  pub at : Map B
-
-pub record Edited {B : Type 0} (before after : View B) (es : List (Edit B)) : Type 0 where
-  pub low : after.low ≡ before.low
-  pub high : after.high ≡ before.high
-  pub map : (n : ℕ) → after.at n ≡ replay before.low before.high before.at es n
-
--- five tables
-pub record Views : Type 0 where
-  pub users : View User
-  pub time_sets : View TimeSet
-  pub zones : View Zone
-  pub groups : View Group
-  pub holidays : View Holiday
-
 -- what a deed leaves of five tables and the log
 pub record Done (d : Deed) (before after : Views) (log log' : List LogEntry) : Type 0 where
-  pub users : Edited before.users after.users (users_edits d)
-  pub time_sets : Edited before.time_sets after.time_sets (time_sets_edits d)
-  pub zones : Edited before.zones after.zones (zones_edits d)
-  pub groups : Edited before.groups after.groups (groups_edits d)
-  pub holidays : Edited before.holidays after.holidays (holidays_edits d)
+  pub users : Agree after.users (replay before.users (users_edits d))
+  pub time_sets : Agree after.time_sets (replay before.time_sets (time_sets_edits d))
+  pub zones : Agree after.zones (replay before.zones (zones_edits d))
+  pub groups : Agree after.groups (replay before.groups (groups_edits d))
+  pub holidays : Agree after.holidays (replay before.holidays (holidays_edits d))
   pub log_is : log' ≡ log_after d log
-
--- the five tables of the code, whose makes say their ranges and their maps
-module _ {Mk U T Z G H : Type 0} where
-  abbrev pub views : (U → ℕ) → (U → ℕ) → (U → Map User) → (T → ℕ) → (T → ℕ) → (T → Map TimeSet) → (Z → ℕ) → (Z → ℕ) → (Z → Map Zone) → (G → ℕ) → (G → ℕ) → (G → Map Group) → (H → ℕ) → (H → ℕ) → (H → Map Holiday) → Tables Mk U T Z G H → Views
-  views u_low u_high u_at t_low t_high t_at z_low z_high z_at g_low g_high g_at h_low h_high h_at t = record {
-    users = record { low = u_low t.users; high = u_high t.users; at = u_at t.users };
-    time_sets = record { low = t_low t.time_sets; high = t_high t.time_sets; at = t_at t.time_sets };
-    zones = record { low = z_low t.zones; high = z_high t.zones; at = z_at t.zones };
-    groups = record { low = g_low t.groups; high = g_high t.groups; at = g_at t.groups };
-    holidays = record { low = h_low t.holidays; high = h_high t.holidays; at = h_at t.holidays };
-  }

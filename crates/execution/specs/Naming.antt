@@ -1,6 +1,6 @@
 -- Numbers by which a record names others.
-use Rattle.std.specs.Prelude.{ℕ, Bool, true, ◌&&◌, ◌||◌, List, [], ◌∷◌, is_some, nat_lt}
-use Rattle.std.specs.List.{flat_map}
+use Rattle.std.specs.Prelude.{ℕ, Bool, ◌||◌, List, is_some, nat_lt}
+use Rattle.std.specs.List.{flat_map, list_all}
 use Rattle.tables.specs.Maps.{Map}
 use Rattle.records.specs.declared.group.Group.{Group}
 use Rattle.records.specs.declared.user.User.{User}
@@ -11,13 +11,8 @@ use Rattle.records.specs.Zones.{sets_of}
 abbrev pub there : {B : Type 0} → Map B → ℕ → Bool
 there f n = nat_lt n 2 || is_some (f n)
 
--- is it so of each?
-abbrev pub every : {A : Type 0} → (A → Bool) → List A → Bool
-every test [] = true
-every test (x ∷ xs) = test x && every test xs
-
 abbrev pub all_there : {B : Type 0} → Map B → List ℕ → Bool
-all_there f ns = every (there f) ns
+all_there f ns = list_all (there f) ns
 
 abbrev pub sets_named : Zone → List ℕ
 sets_named z = flat_map sets_of z.rows

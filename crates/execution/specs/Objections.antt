@@ -1,5 +1,6 @@
 -- The questions that ask the tables, in their order: the refusal of the first that is answered no.
 use Rattle.std.specs.Prelude.{ℕ, Bool, true, false, not, ◌||◌, is_some, Some, None, Ok, Err, Option, Result}
+use Rattle.std.specs.List.{list_all}
 use Rattle.tables.specs.Maps.{Map, removing}
 use Rattle.records.specs.declared.user.User.{User}
 use Rattle.access.specs.Standing.{Standing, lowest}
@@ -9,7 +10,7 @@ use Rattle.orders.specs.declared.command.Command.TheVariants.{DeleteUser, ClearU
 use Rattle.orders.specs.declared.refusal.Refusal.{Refusal}
 use Rattle.orders.specs.declared.refusal.Refusal.TheVariants.{NoUser, Registered, Range, NoTimeSetOrZone, NoZoneOrGroup, CardTaken}
 use Rattle.orders.specs.Meanings.{takes, Content, Meaning}
-use Rattle.execution.specs.Naming.{every, all_there, sets_named, zones_named, groups_named}
+use Rattle.execution.specs.Naming.{all_there, sets_named, zones_named, groups_named}
 
 abbrev pub unless : Bool → Refusal → Option Refusal
 unless true e = None
@@ -42,11 +43,11 @@ objection s PutTimeSets x = None
 objection s DeleteTimeSet n = unless (is_some (s.time_sets n)) NoTimeSetOrZone
 objection s ClearTimeSets x = None
 objection s ReadTimeSet n = unless (is_some (s.time_sets n)) NoTimeSetOrZone
-objection s PutZones es = unless (every (λ e. all_there s.time_sets (sets_named e.body)) es) NoTimeSetOrZone
+objection s PutZones es = unless (list_all (λ e. all_there s.time_sets (sets_named e.body)) es) NoTimeSetOrZone
 objection s DeleteZone n = unless (is_some (s.zones n)) NoTimeSetOrZone
 objection s ClearZones x = None
 objection s ReadZone n = unless (is_some (s.zones n)) NoTimeSetOrZone
-objection s PutGroups es = unless (every (λ e. all_there s.zones (zones_named e.body)) es) NoZoneOrGroup
+objection s PutGroups es = unless (list_all (λ e. all_there s.zones (zones_named e.body)) es) NoZoneOrGroup
 objection s DeleteGroup n = unless (is_some (s.groups n)) NoZoneOrGroup
 objection s ClearGroups x = None
 objection s ReadGroup n = unless (is_some (s.groups n)) NoZoneOrGroup

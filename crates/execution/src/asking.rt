@@ -1,6 +1,6 @@
 // The questions that ask the tables, once a frame alone has been asked.
 ghost use Rattle.std.specs.Prelude.{◌≡◌, true, List};
-ghost use Rattle.std.specs.List.{AllByRecursion};
+ghost use Rattle.std.specs.List.{AllByRecursion, list_all};
 ghost use Rattle.tables.specs.declared.entry.Entry.{Entry};
 ghost use Rattle.records.specs.declared.user.User.{User as Person};
 ghost use Rattle.records.specs.Users.{user_may_have};
@@ -9,13 +9,13 @@ ghost use Rattle.orders.specs.declared.command.Command.TheVariants.{RegisterUser
 ghost use Rattle.orders.specs.Frames.{Right};
 ghost use Rattle.orders.specs.Meanings.{Meaning};
 ghost use Rattle.orders.specs.Orders.{Lies, LiesBehind, Brings};
-ghost use Rattle.execution.specs.Naming.{every, all_there};
+ghost use Rattle.execution.specs.Naming.{all_there};
 ghost use Rattle.execution.specs.Objections.{unless, objection, admitted_or, asked_tables};
 
 use crate::cards::another_has;
 use crate::naming::Naming;
 use access::cards::holder;
-use access::{Makes, Tables};
+use access::{Makes, Site, Tables};
 use orders::{NewUser, Order, Place, Refusal};
 use records::{Group, Record, User, Zone};
 use tables::table::Table;
@@ -27,7 +27,7 @@ fn all_named<R: Record + Naming + Drop, T: Table>(
     place: &Place,
     bytes: &[u8],
 ) -> bool
-    ensures { (es : List (Entry R)) → Lies R.Record.encoded R.Record.long place.now bytes.now es → AllByRecursion (λ e. R.Record.numbers last_user e.number ≡ true) es → result ≡ every (λ e. all_there (T.Table.at table.now) (R.Naming.names e.body)) es }
+    ensures { (es : List (Entry R)) → Lies R.Record.encoded R.Record.long place.now bytes.now es → AllByRecursion (λ e. R.Record.numbers last_user e.number ≡ true) es → result ≡ list_all (λ e. all_there (T.Table.view table.now).at (R.Naming.names e.body)) es }
 {
     for turn in 0..place.count {
         let Some(item) = place.record::<R>(last_user, bytes, turn) else {
@@ -49,7 +49,7 @@ fn found(there: bool, refusal: Refusal) -> Result<(), Refusal>
 
 // Are the groups there that the user names, may it take its number, and has no other user its card?
 fn ask_user<M: Makes>(tables: &Tables<M>, new: &NewUser, bytes: &[u8]) -> Result<(), Refusal>
-    ensures { (e : Entry Person) → LiesBehind new.now bytes.now e → user_may_have (M.Users.Table.high tables.now.users) e.number ≡ true → result ≡ admitted_or (objection (standing M.Users.Table.at M.Users.Table.high M.TimeSets.Table.at M.Zones.Table.at M.Groups.Table.at M.Holidays.Table.at M.Holidays.Table.high tables.now) RegisterUser (new.now.overwrite, e)) }
+    ensures { (e : Entry Person) → LiesBehind new.now bytes.now e → user_may_have ((M.Users.Table.view tables.now.users).high) e.number ≡ true → result ≡ admitted_or (objection (standing (⟦<Tables<M> as Site>⟧.views tables.now)) RegisterUser (new.now.overwrite, e)) }
 {
     let Some(user) = new.user(tables.users.last(), bytes) else {
         return Err(Refusal::Range);
@@ -66,7 +66,7 @@ fn ask_user<M: Makes>(tables: &Tables<M>, new: &NewUser, bytes: &[u8]) -> Result
 
 // The questions that ask the tables, for an order in range: the first answered no refuses it.
 pub fn ask_tables<M: Makes>(tables: &Tables<M>, order: &Order, bytes: &[u8]) -> Result<(), Refusal>
-    ensures { (m : Meaning) → Brings order.now bytes.now m → Right (M.Users.Table.high tables.now.users) m → result ≡ asked_tables (standing M.Users.Table.at M.Users.Table.high M.TimeSets.Table.at M.Zones.Table.at M.Groups.Table.at M.Holidays.Table.at M.Holidays.Table.high tables.now) m }
+    ensures { (m : Meaning) → Brings order.now bytes.now m → Right ((M.Users.Table.view tables.now.users).high) m → result ≡ asked_tables (standing (⟦<Tables<M> as Site>⟧.views tables.now)) m }
 {
     let last_user = tables.users.last();
     match order {

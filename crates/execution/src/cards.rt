@@ -8,16 +8,7 @@ use tables::table::Table;
 
 // One pass over the users, which ends at the first other one that has the card.
 pub(crate) fn another_has<T: Table<Body = User>>(users: &T, number: u32, card: u64) -> bool
-    ensures { result ≡ another_among (T.Table.at users.now) (suc (T.Table.high users.now)) number card }
+    ensures { result ≡ another_among (T.Table.view users.now).at (suc (T.Table.view users.now).high) number card }
 {
-    let mut reached = None;
-    while let Some(found) = users.next(reached) {
-        if let Some(entry) = users.get(found) {
-            if found != number && cards_match(card, entry.body.card()) {
-                return true;
-            }
-        }
-        reached = Some(found);
-    }
-    false
+    users.iter().any(|user| user.number != number && cards_match(card, user.body.card()))
 }

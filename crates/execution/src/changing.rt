@@ -3,17 +3,17 @@ ghost use Rattle.journal.specs.Logs.{log};
 ghost use Rattle.orders.specs.Frames.{Right};
 ghost use Rattle.orders.specs.Meanings.{Meaning};
 ghost use Rattle.orders.specs.Orders.{Brings};
-ghost use Rattle.execution.specs.Deeds.{deed, views, Done};
+ghost use Rattle.execution.specs.Deeds.{deed, Done};
 
 use crate::putting::put_all;
-use access::{Makes, Tables};
+use access::{Makes, Site, Tables};
 use journal::Journal;
 use orders::Order;
 use tables::table::Table;
 
 // Changes one of the tables, or clears the log, as an order in range asks; other orders change nothing.
 pub fn change<M: Makes>(tables: &mut Tables<M>, journal: &mut Journal, order: &Order, bytes: &[u8])
-    ensures { (m : Meaning) → Brings order.now bytes.now m → Right (M.Users.Table.high tables.old.users) m → Done (deed m.0 m.1) (views M.Users.Table.low M.Users.Table.high M.Users.Table.at M.TimeSets.Table.low M.TimeSets.Table.high M.TimeSets.Table.at M.Zones.Table.low M.Zones.Table.high M.Zones.Table.at M.Groups.Table.low M.Groups.Table.high M.Groups.Table.at M.Holidays.Table.low M.Holidays.Table.high M.Holidays.Table.at tables.old) (views M.Users.Table.low M.Users.Table.high M.Users.Table.at M.TimeSets.Table.low M.TimeSets.Table.high M.TimeSets.Table.at M.Zones.Table.low M.Zones.Table.high M.Zones.Table.at M.Groups.Table.low M.Groups.Table.high M.Groups.Table.at M.Holidays.Table.low M.Holidays.Table.high M.Holidays.Table.at tables.new) (log journal.old) (log journal.new) }
+    ensures { (m : Meaning) → Brings order.now bytes.now m → Right (M.Users.Table.view tables.old.users).high m → Done (deed m.0 m.1) (⟦<Tables<M> as Site>⟧.views tables.old) (⟦<Tables<M> as Site>⟧.views tables.new) (log journal.old) (log journal.new) }
 {
     let last_user = tables.users.last();
     match order {

@@ -2,35 +2,30 @@
 ghost use Rattle.std.specs.Prelude.{◌≡◌, ℕ, List};
 ghost use Rattle.execution.specs.Naming.{there, all_there, sets_named, zones_named, groups_named};
 
-use records::{Group, User, Zone};
+use records::{Group, Named, User, Zone};
 use tables::table::Table;
-
-// Numbers 0 and 1 are built in.
-const ALWAYS: u8 = 1;
 
 // A record that names others by their numbers.
 pub(crate) trait Naming: Sized {
     ghost names: { Self → List ℕ };
 
     fn names_there<T: Table>(&self, table: &T) -> bool
-        ensures { result ≡ all_there (T.Table.at table.now) (names self.now) };
+        ensures { result ≡ all_there (T.Table.view table.now).at (names self.now) };
 }
 
 fn is_there<T: Table>(table: &T, number: u8) -> bool
-    ensures { result ≡ there (T.Table.at table.now) number }
+    ensures { result ≡ there (T.Table.view table.now).at number }
 {
-    number <= ALWAYS || table.get(number as u32).is_some()
+    match Named::from(number) {
+        Named::Never | Named::Always => true,
+        Named::Record(number) => table.get(u32::from(number)).is_some(),
+    }
 }
 
 fn are_there<T: Table>(table: &T, numbers: &[u8]) -> bool
-    ensures { result ≡ all_there (T.Table.at table.now) numbers.now }
+    ensures { result ≡ all_there (T.Table.view table.now).at numbers.now }
 {
-    for number in numbers {
-        if !is_there(table, *number) {
-            return false;
-        }
-    }
-    true
+    numbers.iter().all(|number| is_there(table, *number))
 }
 
 impl Naming for User {
@@ -45,14 +40,7 @@ impl Naming for Group {
     ghost names = { zones_named };
 
     fn names_there<T: Table>(&self, zones: &T) -> bool {
-        let mut place = 0;
-        while let Some(zone) = self.zone(place) {
-            if !is_there(zones, zone) {
-                return false;
-            }
-            place += 1;
-        }
-        true
+        are_there(zones, self.zones())
     }
 }
 
@@ -60,13 +48,8 @@ impl Naming for Zone {
     ghost names = { sets_named };
 
     fn names_there<T: Table>(&self, time_sets: &T) -> bool {
-        let mut place = 0;
-        while let Some(row) = self.row(place) {
-            if !are_there(time_sets, row.sets()) {
-                return false;
-            }
-            place += 1;
-        }
-        true
+        self.rows()
+            .iter()
+            .all(|row| are_there(time_sets, row.sets()))
     }
 }

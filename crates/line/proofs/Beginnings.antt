@@ -1,12 +1,11 @@
 -- A line that has the beginning of a frame goes on to have one, or a whole frame, of the last bytes that came.
-use Rattle.std.proofs.Common.{◌≡◌, ℕ, ◌+◌, ◌<◌, ◌≤◌, cond, List, [], ◌∷◌, ◌++◌, length, get_or, take, sym, refl, ap, ◌∙◌, subst, ⊎_elim, add-one, arith}
+use Rattle.std.proofs.Common.{◌≡◌, ℕ, ◌+◌, ◌<◌, ◌≤◌, ◌⊎◌, inl, inr, true, eqb, ltb, List, [], ◌∷◌, ◌++◌, length, get_or, take, sym, refl, ap, ◌∙◌, subst, add-one, arith}
 use Rattle.std.proofs.lemmas.List.{append-nil, append_assoc, length-append}
-use Rattle.std.proofs.lemmas.Bool.{eq-eqb, ne_eqb, cases_lt, cases_eq}
+use Rattle.std.proofs.lemmas.Bool.{ltb-true, ltb-false, leb-true, eqb-true, and_parts, cond_both}
 use Rattle.line.specs.Frame.{Whole, shortest, longest, frame_length, frame_tid}
-use Rattle.line.specs.Rule.{State, listening, holding, kept, judged, hears, after_byte, goes_on}
+use Rattle.line.specs.Rule.{State, listening, holding, kept, judged, length_in_range, hears, after_byte, goes_on}
 use Rattle.line.specs.Laws.{Begun, FrameHeard}
-use Rattle.line.proofs.Keeping.{kept_second, kept_anew, kept_none}
-use Rattle.line.proofs.Frames.{judged_few, judged_short, judged_whole, judged_low, judged_high, length_settled}
+use Rattle.line.proofs.Frames.{length_settled}
 
 -- the bytes kept are the last of those that came, and begin as a frame does
 record Kept (u : List ℕ) (b : ℕ) (v : List ℕ) : Type 0 where
@@ -18,44 +17,17 @@ record Kept (u : List ℕ) (b : ℕ) (v : List ℕ) : Type 0 where
   whole_before : 6 < length v → v ≡ u ++ b ∷ []
 
 none_kept : (u : List ℕ) (b : ℕ) → Kept u b []
-none_kept u b = record { before = u ++ b ∷ []; last_bytes = append-nil (u ++ b ∷ []); first = λ no_way. absurd (omega arith); second = λ no_way. absurd (omega arith); whole_before = λ no_way. absurd (omega arith) }
+none_kept u b = record { before = u ++ b ∷ []; last_bytes = append-nil (u ++ b ∷ []); first = grind arith; second = grind arith; whole_before = grind arith }
 
-anew_kept : (u : List ℕ) (b : ℕ) → b ≡ 7 → Kept u b (b ∷ [])
-anew_kept u b is = record { before = u; last_bytes = refl; first = λ _. is; second = λ no_way. absurd (omega arith); whole_before = λ no_way. absurd (omega arith) }
+anew_kept : (u : List ℕ) (b : ℕ) → eqb b 7 ≡ true → Kept u b (b ∷ [])
+anew_kept u b is = record { before = u; last_bytes = refl; first = λ _. eqb-true b 7 is; second = grind arith; whole_before = grind arith }
 
 keeps : (u : List ℕ) (b : ℕ) → Begun u → Kept u b (kept u b)
-keeps [] b begun =
-    ⊎_elim (λ is. subst (Kept [] b) (sym (kept_anew [] b (omega arith) is)) (anew_kept [] b is)) (λ no. subst (Kept [] b) (sym (kept_none [] b (omega arith) no (λ one. absurd (omega arith)))) (none_kept [] b)) (cases_eq b 7)
+keeps [] b begun = cond_both _ _ _ (Kept [] b) (anew_kept [] b) (λ _. none_kept [] b)
 keeps (a ∷ []) b begun =
-    ⊎_elim
-    (λ is. subst (Kept (a ∷ []) b) (sym (kept_anew (a ∷ []) b (omega arith) is)) (anew_kept (a ∷ []) b is))
-    (λ no_first. ⊎_elim
-    (λ is. subst (Kept (a ∷ []) b) (sym (kept_second (a ∷ []) b refl is)) (record { before = []; last_bytes = refl; first = λ _. begun.first (omega arith); second = λ _. is; whole_before = λ no_way. absurd (omega arith) }))
-    (λ no_second. subst (Kept (a ∷ []) b) (sym (kept_none (a ∷ []) b (omega arith) no_first (λ _. no_second))) (none_kept (a ∷ []) b))
-    (cases_eq b 3))
-    (cases_eq b 7)
+    cond_both _ _ _ (Kept (a ∷ []) b) (anew_kept (a ∷ []) b) (λ _. cond_both _ _ _ (Kept (a ∷ []) b) (λ is. record { before = []; last_bytes = refl; first = λ _. begun.first (omega arith); second = λ _. eqb-true b 3 is; whole_before = grind arith }) (λ _. none_kept (a ∷ []) b))
 keeps (a ∷ c ∷ u) b begun =
     record { before = []; last_bytes = refl; first = λ _. begun.first (omega arith); second = λ _. begun.second (omega arith); whole_before = λ _. refl }
-
--- what the bytes kept are judged to be
-data Judgement (tid : ℕ) (v : List ℕ) (s : State) : Type 0 where
-  few : length v < 6 → s ≡ listening v → Judgement tid v s
-  dropped : s ≡ listening [] → Judgement tid v s
-  short : 6 ≤ length v → shortest ≤ frame_length v → frame_length v ≤ longest → length v < frame_length v → s ≡ listening v → Judgement tid v s
-  whole : 6 ≤ length v → shortest ≤ frame_length v → frame_length v ≤ longest → frame_length v ≤ length v → frame_tid v ≡ tid → s ≡ holding v → Judgement tid v s
-
-judgement : (tid : ℕ) (v : List ℕ) → Judgement tid v (judged tid v)
-judgement tid v =
-    ⊎_elim (λ less. few less (judged_few tid v less)) (λ enough.
-    ⊎_elim (λ low. dropped (judged_low tid v enough low)) (λ low.
-    ⊎_elim (λ high. dropped (judged_high tid v enough low high)) (λ high.
-    ⊎_elim (λ less. short enough low high less (judged_short tid v enough low high less)) (λ long.
-    ⊎_elim (λ ours. whole enough low high long ours (judged_whole tid v enough low high long ∙ ap (λ t. cond t (holding v) (listening [])) (eq-eqb (frame_tid v) tid ours))) (λ no. dropped (judged_whole tid v enough low high long ∙ ap (λ t. cond t (holding v) (listening [])) (ne_eqb (frame_tid v) tid no)))
-    (cases_eq (frame_tid v) tid))
-    (cases_lt (length v) (frame_length v)))
-    (cases_lt longest (frame_length v)))
-    (cases_lt (frame_length v) shortest))
-    (cases_lt (length v) 6)
 
 -- what a line has is the end of what it had and the bytes that came
 record LastOf (u bytes v : List ℕ) : Type 0 where
@@ -67,30 +39,39 @@ Stands tid u bytes (listening v) = Begun v × LastOf u bytes v
 Stands tid u bytes (holding f) = Whole tid f × LastOf u bytes f
 
 not_begun : Begun []
-not_begun = record { first = λ no_way. absurd (omega arith); second = λ no_way. absurd (omega arith); long_enough = λ no_way. absurd (omega arith); short_enough = λ no_way. absurd (omega arith); unfinished = λ no_way. absurd (omega arith) }
+not_begun = grind arith
+
+-- bytes that begin as a frame does, too few to know LENGTH or fewer than it
+begun_still : (v : List ℕ) → (0 < length v → get_or v 0 0 ≡ 7) → (1 < length v → get_or v 1 0 ≡ 3) → (length v < 6) ⊎ ((shortest ≤ frame_length v) × (frame_length v ≤ longest) × (length v < frame_length v)) → Begun v
+begun_still v first second (inl few) = record { first = first; second = second; long_enough = grind arith; short_enough = grind arith; unfinished = grind arith }
+begun_still v first second (inr less) = record { first = first; second = second; long_enough = λ _. less.0; short_enough = λ _. less.1; unfinished = λ _. less.2 }
 
 -- a frame that is whole has just become so
-just_whole : (u v : List ℕ) (b : ℕ) → Begun u → Kept u b v → 6 ≤ length v → shortest ≤ frame_length v → frame_length v ≤ length v → frame_length v ≡ length v
-just_whole u v b begun k enough low long =
-    let more : 6 < length v = omega arith in
-    let is = k.whole_before more in
+whole_now : (tid : ℕ) (u v : List ℕ) (b : ℕ) → Begun u → Kept u b v → 6 ≤ length v → shortest ≤ frame_length v → frame_length v ≤ longest → frame_length v ≤ length v → frame_tid v ≡ tid → Whole tid v
+whole_now tid u v b begun k enough low high long ours =
+    let is = k.whole_before (omega arith) in
     let longer : length v ≡ length u + 1 = ap length is ∙ length-append u (b ∷ []) in
     let same : frame_length v ≡ frame_length u = ap frame_length is ∙ length_settled u (b ∷ []) (omega arith) in
-    omega (arith, begun.unfinished (omega arith))
+    let right : frame_length v ≡ length v = omega (arith, begun.unfinished (omega arith)) in
+    record { first = k.first (omega arith); second = k.second (omega arith); long_enough = omega arith; short_enough = omega arith; right_length = right; right_tid = ours }
+
+-- what is made of the bytes kept
+judged_stands : (tid : ℕ) (u v : List ℕ) (b : ℕ) → Begun u → Kept u b v → Stands tid u (b ∷ []) (judged tid v)
+judged_stands tid u v b begun k =
+    let last : LastOf u (b ∷ []) v = record { before = k.before; last_bytes = k.last_bytes } in
+    let dropped : Stands tid u (b ∷ []) (listening []) = (not_begun, record { before = u ++ b ∷ []; last_bytes = append-nil (u ++ b ∷ []) }) in
+    cond_both (ltb (length v) 6) _ _ (Stands tid u (b ∷ []))
+    (λ few. (begun_still v k.first k.second (inl (ltb-true _ _ few)), last))
+    (λ enough. cond_both (length_in_range v) _ _ (Stands tid u (b ∷ []))
+    (λ in_range. let range = and_parts _ _ in_range in cond_both (ltb (length v) (frame_length v)) _ _ (Stands tid u (b ∷ []))
+    (λ less. (begun_still v k.first k.second (inr (leb-true _ _ range.0, leb-true _ _ range.1, ltb-true _ _ less)), last))
+    (λ long. cond_both (eqb (frame_tid v) tid) _ _ (Stands tid u (b ∷ []))
+    (λ ours. (whole_now tid u v b begun k (ltb-false _ _ enough) (leb-true _ _ range.0) (leb-true _ _ range.1) (ltb-false _ _ long) (eqb-true _ _ ours), last))
+    (λ _. dropped)))
+    (λ _. dropped))
 
 stands : (tid : ℕ) (u : List ℕ) (b : ℕ) → Begun u → Stands tid u (b ∷ []) (after_byte tid u b)
-stands tid u b begun =
-    let v = kept u b in
-    let k = keeps u b begun in
-    let last : LastOf u (b ∷ []) v = record { before = k.before; last_bytes = k.last_bytes } in
-    elim (judgement tid v) [
-      | few less is ↦ subst (Stands tid u (b ∷ [])) (sym is) (record { first = k.first; second = k.second; long_enough = λ no_way. absurd (omega arith); short_enough = λ no_way. absurd (omega arith); unfinished = λ no_way. absurd (omega arith) }, last)
-      | dropped is ↦ subst (Stands tid u (b ∷ [])) (sym is) (not_begun, record { before = u ++ b ∷ []; last_bytes = append-nil (u ++ b ∷ []) })
-      | short enough low high less is ↦ subst (Stands tid u (b ∷ [])) (sym is) (record { first = k.first; second = k.second; long_enough = λ _. low; short_enough = λ _. high; unfinished = λ _. less }, last)
-      | whole enough low high long ours is ↦
-          let right = just_whole u v b begun k enough low long in
-          subst (Stands tid u (b ∷ [])) (sym is) (record { first = k.first (omega arith); second = k.second (omega arith); long_enough = omega arith; short_enough = omega arith; right_length = right; right_tid = ours }, last)
-    ]
+stands tid u b begun = judged_stands tid u (kept u b) b begun (keeps u b begun)
 
 last_of_last : (u v w : List ℕ) (b : ℕ) (bytes : List ℕ) → LastOf u (b ∷ []) v → LastOf v bytes w → LastOf u (b ∷ bytes) w
 last_of_last u v w b bytes l m = record {

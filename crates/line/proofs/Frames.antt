@@ -3,31 +3,23 @@ use Rattle.std.proofs.Common.{◌≡◌, ℕ, ◌+◌, ◌-◌, ◌<◌, ◌≤�
 use Rattle.std.specs.Int.Digits.{number_from_digits}
 use Rattle.std.specs.List.{AllByRecursion}
 use Rattle.std.proofs.lemmas.List.{append-nil, append_assoc, length-append, length-drop, take-append-le, drop-append-le}
-use Rattle.std.proofs.lemmas.Bool.{lt-ltb, le-ltb, le-leb, lt-leb, eq-eqb, ne_eqb, cases_lt}
+use Rattle.std.proofs.lemmas.Bool.{eq-eqb, ne_eqb, cases_lt}
+use Rattle.std.proofs.lemmas.Bool.Decides.{nat_tests}
 use Rattle.line.specs.Frame.{Whole, shortest, longest, frame_length, frame_tid}
 use Rattle.line.specs.Rule.{Heard, State, listening, holding, kept, judged, hears, after_byte, goes_on, one_more}
 use Rattle.line.specs.Laws.{ReadyAtLastByte, PassedOver, hears_all, all_bytes}
 use Rattle.line.proofs.Hearing.{same_heard, hears_none, hears_more}
-use Rattle.line.proofs.Keeping.{kept_second, kept_anew}
 
 -- ---- judging
 
-pub judged_few : (tid : ℕ) (v : List ℕ) → length v < 6 → judged tid v ≡ listening v
-judged_few tid v few = rw (lt-ltb (length v) 6 few)
+judged_few : (tid : ℕ) (v : List ℕ) → length v < 6 → judged tid v ≡ listening v
+judged_few tid v few = grind (arith, nat_tests)
 
-pub judged_short : (tid : ℕ) (v : List ℕ) → 6 ≤ length v → shortest ≤ frame_length v → frame_length v ≤ longest → length v < frame_length v → judged tid v ≡ listening v
-judged_short tid v enough low high short =
-    rw (le-ltb (length v) 6 enough, le-leb shortest (frame_length v) low, le-leb (frame_length v) longest high, lt-ltb (length v) (frame_length v) short)
+judged_short : (tid : ℕ) (v : List ℕ) → 6 ≤ length v → shortest ≤ frame_length v → frame_length v ≤ longest → length v < frame_length v → judged tid v ≡ listening v
+judged_short tid v enough low high short = grind (arith, nat_tests)
 
-pub judged_whole : (tid : ℕ) (v : List ℕ) → 6 ≤ length v → shortest ≤ frame_length v → frame_length v ≤ longest → frame_length v ≤ length v → judged tid v ≡ cond (eqb (frame_tid v) tid) (holding v) (listening [])
-judged_whole tid v enough low high long =
-    rw (le-ltb (length v) 6 enough, le-leb shortest (frame_length v) low, le-leb (frame_length v) longest high, le-ltb (length v) (frame_length v) long)
-
-pub judged_low : (tid : ℕ) (v : List ℕ) → 6 ≤ length v → frame_length v < shortest → judged tid v ≡ listening []
-judged_low tid v enough low = rw (le-ltb (length v) 6 enough, lt-leb shortest (frame_length v) low)
-
-pub judged_high : (tid : ℕ) (v : List ℕ) → 6 ≤ length v → shortest ≤ frame_length v → longest < frame_length v → judged tid v ≡ listening []
-judged_high tid v enough low high = rw (le-ltb (length v) 6 enough, le-leb shortest (frame_length v) low, lt-leb (frame_length v) longest high)
+judged_whole : (tid : ℕ) (v : List ℕ) → 6 ≤ length v → shortest ≤ frame_length v → frame_length v ≤ longest → frame_length v ≤ length v → judged tid v ≡ cond (eqb (frame_tid v) tid) (holding v) (listening [])
+judged_whole tid v enough low high long = grind (arith, nat_tests)
 
 -- ---- LENGTH is settled with the sixth byte
 
@@ -39,12 +31,12 @@ length_settled v r enough =
 
 module _ (tid other : ℕ) (f : List ℕ) (w : Whole other f) where
   keeps : (u : List ℕ) (b : ℕ) (r : List ℕ) → u ++ b ∷ r ≡ f → kept u b ≡ u ++ b ∷ []
-  keeps [] b r is = kept_anew [] b (omega arith) (ap (λ l. get_or l 0 0) is ∙ w.first)
-  keeps (a ∷ []) b r is = kept_second (a ∷ []) b refl (ap (λ l. get_or l 1 0) is ∙ w.second)
+  keeps [] b r is = let first : b ≡ 7 = ap (λ l. get_or l 0 0) is ∙ w.first in grind (arith, nat_tests)
+  keeps (a ∷ []) b r is = let second : b ≡ 3 = ap (λ l. get_or l 1 0) is ∙ w.second in grind (arith, nat_tests)
   keeps (a ∷ c ∷ u) b r is = refl
 
   -- another byte is still to come
-  pub grows : (u : List ℕ) (b : ℕ) (r : List ℕ) → u ++ b ∷ r ≡ f → 0 < length r → after_byte tid u b ≡ listening (u ++ b ∷ [])
+  grows : (u : List ℕ) (b : ℕ) (r : List ℕ) → u ++ b ∷ r ≡ f → 0 < length r → after_byte tid u b ≡ listening (u ++ b ∷ [])
   grows u b r is more =
       let v = u ++ b ∷ [] in
       let split : v ++ r ≡ f = append_assoc u (b ∷ []) r ∙ is in
@@ -54,12 +46,12 @@ module _ (tid other : ℕ) (f : List ℕ) (w : Whole other f) where
       judged_short tid v enough (omega (arith, w.long_enough)) (omega (arith, w.short_enough)) (omega arith)) (cases_lt (length v) 6)
 
   -- this is the last byte
-  pub ends : (u : List ℕ) (b : ℕ) → u ++ b ∷ [] ≡ f → after_byte tid u b ≡ cond (eqb (frame_tid f) tid) (holding f) (listening [])
+  ends : (u : List ℕ) (b : ℕ) → u ++ b ∷ [] ≡ f → after_byte tid u b ≡ cond (eqb (frame_tid f) tid) (holding f) (listening [])
   ends u b is =
       ap (judged tid) (keeps u b [] is ∙ is) ∙ judged_whole tid f (omega (arith, w.long_enough)) (omega (arith, w.right_length, w.long_enough)) (omega (arith, w.right_length, w.short_enough)) (omega (arith, w.right_length))
 
   -- a part of the frame, with more to come
-  pub part_heard : (u p r : List ℕ) → u ++ (p ++ r) ≡ f → 0 < length r → hears tid u p ≡ record { taken = length p; state = listening (u ++ p) }
+  part_heard : (u p r : List ℕ) → u ++ (p ++ r) ≡ f → 0 < length r → hears tid u p ≡ record { taken = length p; state = listening (u ++ p) }
   part_heard u [] r is more = hears_none tid u ∙ same_heard refl (ap listening (sym (append-nil u)))
   part_heard u (b ∷ p) r is more =
       let rest : u ++ b ∷ [] ++ (p ++ r) ≡ f = append_assoc u (b ∷ []) (p ++ r) ∙ is in
@@ -67,7 +59,7 @@ module _ (tid other : ℕ) (f : List ℕ) (w : Whole other f) where
       hears_more tid u b p ∙ ap (λ s. goes_on s (λ v. hears tid v p)) (grows u b (p ++ r) is (omega arith)) ∙ ap one_more (part_heard (u ++ b ∷ []) p r rest more) ∙ same_heard (omega arith) (ap listening (append_assoc u (b ∷ []) p))
 
   -- the part that ends the frame, whatever comes behind it
-  pub end_heard : (u q behind : List ℕ) (s : State) → u ++ q ≡ f → 0 < length q → cond (eqb (frame_tid f) tid) (holding f) (listening []) ≡ s → hears tid u (q ++ behind) ≡ record { taken = length q + (goes_on s (λ v. hears tid v behind)).taken - 1; state = (goes_on s (λ v. hears tid v behind)).state }
+  end_heard : (u q behind : List ℕ) (s : State) → u ++ q ≡ f → 0 < length q → cond (eqb (frame_tid f) tid) (holding f) (listening []) ≡ s → hears tid u (q ++ behind) ≡ record { taken = length q + (goes_on s (λ v. hears tid v behind)).taken - 1; state = (goes_on s (λ v. hears tid v behind)).state }
   end_heard u [] behind s is some came = absurd (omega arith)
   end_heard u (b ∷ []) behind s is some came =
       hears_more tid u b behind ∙ ap (λ t. goes_on t (λ v. hears tid v behind)) (ends u b is ∙ came) ∙ same_heard (omega arith) refl
@@ -76,7 +68,7 @@ module _ (tid other : ℕ) (f : List ℕ) (w : Whole other f) where
       hears_more tid u b (c ∷ q ++ behind) ∙ ap (λ t. goes_on t (λ v. hears tid v (c ∷ q ++ behind))) (grows u b (c ∷ q) is (omega arith)) ∙ ap one_more (end_heard (u ++ b ∷ []) (c ∷ q) behind s rest (omega arith) came) ∙ same_heard (omega arith) refl
 
   -- the parts of the frame, with more to come
-  pub parts_heard : (u : List ℕ) (pieces : List (List ℕ)) (q : List ℕ) → u ++ (all_bytes pieces ++ q) ≡ f → 0 < length q → hears_all tid (listening u) pieces ≡ listening (u ++ all_bytes pieces)
+  parts_heard : (u : List ℕ) (pieces : List (List ℕ)) (q : List ℕ) → u ++ (all_bytes pieces ++ q) ≡ f → 0 < length q → hears_all tid (listening u) pieces ≡ listening (u ++ all_bytes pieces)
   parts_heard u [] q is more = ap listening (sym (append-nil u))
   parts_heard u (p ∷ pieces) q is more =
       let rest = all_bytes pieces in

@@ -1,5 +1,5 @@
 -- Pieces do not matter, and a piece is read to its end unless an order is ready.
-use Rattle.std.proofs.Common.{◌≡◌, ℕ, ◌+◌, ◌<◌, ◌≤◌, List, [], ◌∷◌, ◌++◌, length, refl, ap, ◌∙◌, arith}
+use Rattle.std.proofs.Common.{◌≡◌, ℕ, ◌+◌, List, [], ◌∷◌, ◌++◌, length, refl, ap, ◌∙◌, arith}
 use Rattle.line.specs.Rule.{State, listening, holding, hears, after_byte, goes_on, one_more}
 use Rattle.line.specs.Laws.{heard_on, PiecesJoin, AllRead}
 use Rattle.line.proofs.Hearing.{same_heard}
@@ -27,13 +27,3 @@ pub all_read : (tid : ℕ) → AllRead tid
 unfolding hears
 all_read tid u [] v is = refl
 all_read tid u (b ∷ p) v is = reads_on tid p v (after_byte tid u b) (λ w. all_read tid w p v) is ∙ omega arith
-
--- an order is ready at a byte of the piece
-ready_on : (tid : ℕ) (p f : List ℕ) (s : State) → ((w : List ℕ) → (hears tid w p).state ≡ holding f → (0 < (hears tid w p).taken) × ((hears tid w p).taken ≤ length p)) → (goes_on s (λ w. hears tid w p)).state ≡ holding f → (0 < (goes_on s (λ w. hears tid w p)).taken) × ((goes_on s (λ w. hears tid w p)).taken ≤ length p + 1)
-ready_on tid p f (listening w) rest is = let e = rest w is in (omega arith, omega arith)
-ready_on tid p f (holding g) rest is = (omega arith, omega arith)
-
-pub ready_within : (tid : ℕ) (u p f : List ℕ) → (hears tid u p).state ≡ holding f → (0 < (hears tid u p).taken) × ((hears tid u p).taken ≤ length p)
-unfolding hears
-ready_within tid u [] f is = let no_way : ◌≡◌ {A = ℕ} 0 1 = cc in absurd (omega arith)
-ready_within tid u (b ∷ p) f is = let told = ready_on tid p f (after_byte tid u b) (λ w. ready_within tid w p f) is in (told.0, omega arith)

@@ -1,5 +1,5 @@
 -- What a line of the code has, as the line rule speaks of it.
-use Rattle.std.specs.Prelude.{◌≡◌, ℕ, ◌<◌, ◌≤◌, List, length, take, vec_items}
+use Rattle.std.specs.Prelude.{◌≡◌, ℕ, ◌<◌, ◌≤◌, List, length}
 use Rattle.line.specs.declared.state.Line.{Line}
 use Rattle.line.specs.declared.state.Listening.{Listening}
 use Rattle.line.specs.declared.state.Holding.{Holding}
@@ -8,10 +8,10 @@ use Rattle.line.specs.declared.state.Fed.TheVariants.{Waiting, Ready}
 use Rattle.line.specs.Rule.{Heard, listening, holding}
 
 abbrev pub unfinished : Line Listening → List ℕ
-unfinished l = take l.state.have (vec_items l.buffer.bytes)
+unfinished l = l.state.kept.bytes.items
 
 abbrev pub ready_frame : Line Holding → List ℕ
-ready_frame l = take l.state.length (vec_items l.buffer.bytes)
+ready_frame l = l.state.frame.bytes.items
 
 abbrev pub heard : Fed → Heard
 heard (Waiting l n) = record { taken = n; state = listening (unfinished l) }

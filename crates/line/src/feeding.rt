@@ -1,55 +1,30 @@
 // Feeding a line and settling its order.
-ghost use Rattle.std.specs.Prelude.{◌≡◌, ◌+◌, ◌<◌, ◌≤◌, [], length, take, IfOk, vec_len};
+ghost use Rattle.std.specs.Prelude.{◌≡◌, ◌+◌, ◌<◌, ◌≤◌, [], length, IfOk, vec_len, vec_capacity};
+ghost use Rattle.std.specs.Option.{SomeIff};
 ghost use Rattle.line.specs.Frame.{longest, frame_length, frame_tid};
-ghost use Rattle.line.specs.Rule.{kept, judged, hears};
+ghost use Rattle.line.specs.Rule.{kept, judged, after_byte, hears};
 ghost use Rattle.line.specs.Lines.{unfinished, ready_frame, heard, fed_tid, Taken};
 ghost use Rattle.line.specs.Laws.{LineLaws};
-ghost use Rattle.line.specs.Steps.{Judges, Reached};
+ghost use Rattle.line.specs.Steps.{Judges, Keeps};
 
-use crate::frame::{FIRST_BYTE, LENGTH_END, LONGEST, SECOND_BYTE, SHORTEST};
+use crate::frame::{FIRST_BYTE, LENGTH_END, LONGEST, SECOND_BYTE, SHORTEST, TID_END};
 use crate::state::{Fed, FrameBuffer, Holding, Line, Listening, PendingReply};
 use std::alloc::{AllocError, Global};
 
-impl FrameBuffer {
-    pub fn new(heap: Global) -> Result<FrameBuffer, AllocError>
-        ensures { IfOk result (λ b. vec_len b.bytes ≡ longest) }
-    {
-        Ok(FrameBuffer {
-            bytes: vec![in heap; 0; LONGEST]?,
-        })
-    }
+// LENGTH, once its bytes are there.
+fn length_of(frame: &[u8]) -> Option<usize>
+    ensures { SomeIff result (6 ≤ length frame.now) (frame_length frame.now) }
+{
+    let [_, _, a, b, c, d] = *frame.first_chunk::<LENGTH_END>()?;
+    Some(u32::from_be_bytes([a, b, c, d]) as usize)
 }
 
-// Keeps one byte more of a frame's beginning, and tells how many bytes are kept.
-fn keep(buffer: &mut [u8], have: usize, byte: u8) -> usize
-    requires { have < length buffer.old }
-    ensures bytes { take result buffer.new ≡ kept (take have buffer.old) byte }
-    ensures bound { result ≤ have + 1 }
+// TID, once its bytes are there. It has a function beside LENGTH's, since `from_be_bytes` is in no trait.
+fn tid_of(frame: &[u8]) -> Option<u16>
+    ensures { SomeIff result (8 ≤ length frame.now) (frame_tid frame.now) }
 {
-    if have >= 2 || byte == SECOND_BYTE && have == 1 {
-        buffer[have] = byte;
-        have + 1
-    } else if byte == FIRST_BYTE {
-        buffer[0] = byte;
-        1
-    } else {
-        0
-    }
-}
-
-// LENGTH, of bytes that have it.
-fn length_of(frame: &[u8]) -> usize
-    requires { 6 ≤ length frame.now }
-    ensures { result ≡ frame_length frame.now }
-{
-    u32::from_be_bytes([frame[2], frame[3], frame[4], frame[5]]) as usize
-}
-
-fn tid_of(frame: &[u8]) -> u16
-    requires { 8 ≤ length frame.now }
-    ensures { result ≡ frame_tid frame.now }
-{
-    u16::from_be_bytes([frame[6], frame[7]])
+    let [.., a, b] = *frame.first_chunk::<TID_END>()?;
+    Some(u16::from_be_bytes([a, b]))
 }
 
 // What the bytes kept of a frame are.
@@ -62,52 +37,58 @@ enum Verdict {
 fn judge(tid: u16, frame: &[u8]) -> Verdict
     ensures { Judges (judged tid frame.now) frame.now result }
 {
-    if frame.len() < LENGTH_END {
+    let Some(length) = length_of(frame) else {
         return Verdict::Unfinished;
-    }
-    let length = length_of(frame);
-    if length < SHORTEST || LONGEST < length {
+    };
+    if !(SHORTEST..=LONGEST).contains(&length) {
         Verdict::Dropped
     } else if frame.len() < length {
         Verdict::Unfinished
-    } else if tid_of(frame) == tid {
+    } else if tid_of(frame) == Some(tid) {
         Verdict::Whole
     } else {
         Verdict::Dropped
     }
 }
 
-// Where the bytes of a piece led to: how many bytes are kept, how many were taken, and whether those
-// kept are a whole frame for this controller.
-struct Progress {
-    have: usize,
-    taken: usize,
-    whole: bool,
-}
+impl FrameBuffer {
+    pub fn new(heap: Global) -> Result<FrameBuffer, AllocError>
+        ensures { IfOk result (λ b. vec_capacity b.bytes ≡ longest) }
+    {
+        let bytes = Vec::with_capacity(heap, LONGEST)?;
+        Ok(FrameBuffer { bytes })
+    }
 
-fn listen(tid: u16, buffer: &mut [u8], have: usize, piece: &[u8]) -> Progress
-    requires { (have < 4096) × (length buffer.old ≡ 4096) }
-    ensures { Reached tid (take have buffer.old) piece.now buffer.new result }
-{
-    let mut have = have;
-    for (i, byte) in piece.iter().enumerate() {
-        have = keep(buffer, have, *byte);
-        match judge(tid, &buffer[0..have]) {
-            Verdict::Unfinished => {}
-            Verdict::Dropped => have = 0,
-            Verdict::Whole => {
-                return Progress {
-                    have,
-                    taken: i + 1,
-                    whole: true,
-                };
+    // Keeps one byte more of a frame's beginning.
+    fn keep(&mut self, byte: u8)
+        requires { vec_len self.old.bytes < longest }
+        ensures bytes { self.new.bytes.items ≡ kept self.old.bytes.items byte }
+        ensures bound { vec_len self.new.bytes ≤ vec_len self.old.bytes + 1 }
+    {
+        match (self.bytes.as_slice(), byte) {
+            ([_, _, ..], _) | ([_], SECOND_BYTE) => self.bytes.push_reserved(byte),
+            (_, FIRST_BYTE) => {
+                self.bytes.clear();
+                self.bytes.push_reserved(byte);
             }
+            _ => self.bytes.clear(),
         }
     }
-    Progress {
-        have,
-        taken: piece.len(),
-        whole: false,
+
+    // Hears one byte more, and tells whether an order is ready with it.
+    fn hear(&mut self, tid: u16, byte: u8) -> bool
+        requires { vec_len self.old.bytes < longest }
+        ensures { Keeps (after_byte tid self.old.bytes.items byte) self.new.bytes.items result }
+    {
+        self.keep(byte);
+        match judge(tid, &self.bytes) {
+            Verdict::Unfinished => false,
+            Verdict::Dropped => {
+                self.bytes.clear();
+                false
+            }
+            Verdict::Whole => true,
+        }
     }
 }
 
@@ -121,45 +102,40 @@ impl<L> Line<L> {
 
 impl Line<Listening> {
     // A line that has heard nothing, whatever the buffer held.
-    pub fn new(tid: u16, buffer: FrameBuffer) -> Line<Listening>
+    pub fn new(tid: u16, mut buffer: FrameBuffer) -> Line<Listening>
         ensures tid { result.tid ≡ tid }
         ensures unfinished { unfinished result ≡ [] }
     {
-        Line {
-            tid,
-            state: Listening { have: 0 },
-            buffer,
-        }
+        buffer.bytes.clear();
+        let state = Listening { kept: buffer };
+        Line { tid, state }
     }
 
     // How many bytes of an unfinished frame the line has.
     pub fn bytes_waiting(&self) -> usize
         ensures { result ≡ length (unfinished self.now) }
     {
-        self.state.have
+        self.state.kept.bytes.len()
     }
 
     // Takes the piece up to the byte that makes an order ready, or all of it.
+    #[tactic(auto, using(crate::proofs::Hearing::still_listening, crate::proofs::Hearing::all_heard))]
     pub fn feed(self, piece: &[u8]) -> Fed
         ensures rule { heard result ≡ hears self.tid (unfinished self) piece.now }
         ensures tid { fed_tid result ≡ self.tid }
         ensures taken { Taken piece.now result }
         ensures laws { LineLaws self.tid }
     {
-        let Line { tid, state, buffer } = self;
-        let Listening { have } = state;
-        let FrameBuffer { mut bytes } = buffer;
-        let progress = listen(tid, &mut bytes, have, piece);
-        let Progress { have, taken, whole } = progress;
-        let buffer = FrameBuffer { bytes };
-        if whole {
-            let state = Holding { length: have };
-            let pending = PendingReply(());
-            Fed::Ready(Line { tid, state, buffer }, pending, taken)
-        } else {
-            let state = Listening { have };
-            Fed::Waiting(Line { tid, state, buffer }, taken)
+        let Line { tid, state } = self;
+        let Listening { mut kept } = state;
+        for (i, byte) in piece.iter().enumerate() {
+            if kept.hear(tid, *byte) {
+                let state = Holding { frame: kept };
+                return Fed::Ready(Line { tid, state }, PendingReply(()), i + 1);
+            }
         }
+        let state = Listening { kept };
+        Fed::Waiting(Line { tid, state }, piece.len())
     }
 }
 
@@ -168,7 +144,7 @@ impl Line<Holding> {
     pub fn frame(&self) -> &[u8]
         ensures { result.now ≡ ready_frame self.now }
     {
-        &self.buffer.bytes[0..self.state.length]
+        &self.state.frame.bytes
     }
 
     // Drops the ready order. Nothing else changes.
@@ -177,8 +153,8 @@ impl Line<Holding> {
         ensures unfinished { unfinished result ≡ [] }
     {
         let PendingReply(()) = pending;
-        let Line { tid, state, buffer } = self;
-        let Holding { length: _ } = state;
-        Line::new(tid, buffer)
+        let Line { tid, state } = self;
+        let Holding { frame } = state;
+        Line::new(tid, frame)
     }
 }

@@ -7,8 +7,12 @@ pub const FIRST_BYTE: u8 = 0x07;
 pub const SECOND_BYTE: u8 = 0x03;
 
 pub const LAST_BYTE: u8 = 0x04;
+
 // LENGTH is known once these are there.
 pub const LENGTH_END: usize = 6;
+
+// And TID, once these are.
+pub(crate) const TID_END: usize = 8;
 
 pub const SHORTEST: usize = 11;
 
@@ -29,18 +33,12 @@ pub fn checksum(bytes: &[u8]) -> u8
 pub fn ends_right(frame: &[u8]) -> bool
     ensures { result ≡ ends_right frame.now }
 {
-    match frame {
-        [.., last] => *last == LAST_BYTE,
-        [] => false,
-    }
+    matches!(frame, [.., LAST_BYTE])
 }
 
 // Is the byte before the last the checksum of all before it?
 pub fn checksum_right(frame: &[u8]) -> bool
     ensures { result ≡ sums_right frame.now }
 {
-    match frame {
-        [before @ .., sum, _] => *sum == checksum(before),
-        _ => false,
-    }
+    matches!(frame, [before @ .., sum, _] if *sum == checksum(before))
 }

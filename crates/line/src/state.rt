@@ -1,26 +1,27 @@
-// The states of a line, and the memory that lies beside them.
-ghost use Rattle.std.specs.Prelude.{◌≡◌, ◌<◌, ◌≤◌, vec_len};
+// The states of a line, and the memory that each of them has.
+ghost use Rattle.std.specs.Prelude.{◌≡◌, ◌<◌, ◌≤◌, vec_len, vec_capacity};
+ghost use Rattle.line.specs.Frame.{shortest, longest};
 
-// Room for the longest frame. It is made beforehand, since no call of a line allocates.
+// The bytes that are kept of a frame. Room for the longest one is reserved beforehand, since no call of a
+// line allocates.
 #[derive(Drop)]
 pub struct FrameBuffer {
     pub(crate) bytes: Vec<u8>,
-    ghost room: { vec_len bytes ≡ 4096 },
+    ghost room: { vec_capacity bytes ≡ longest },
 }
 
-// No order is ready. The first `have` bytes of the buffer are those of an unfinished frame.
+// No order is ready. What is kept is the beginning of an unfinished frame.
 #[derive(Drop)]
 pub struct Listening {
-    pub(crate) have: usize,
-    ghost short: { have < 4096 },
+    pub(crate) kept: FrameBuffer,
+    ghost short: { vec_len kept.bytes < longest },
 }
 
-// An order is ready: the first `length` bytes of the buffer. It is not `Drop`, so a line that holds an
-// order cannot be let go.
+// An order is ready: its frame. It is not `Drop`, so a line that holds an order cannot be let go.
 pub struct Holding {
-    pub(crate) length: usize,
-    ghost whole: { 11 ≤ length },
-    ghost fits: { length ≤ 4096 },
+    pub(crate) frame: FrameBuffer,
+    ghost whole: { shortest ≤ vec_len frame.bytes },
+    ghost fits: { vec_len frame.bytes ≤ longest },
 }
 
 // The reply that is owed for a ready order. It is not `Drop`: settling the order is what spends it.
@@ -31,7 +32,6 @@ pub struct PendingReply(pub(crate) ());
 pub struct Line<L> {
     pub(crate) tid: u16,
     pub(crate) state: L,
-    pub(crate) buffer: FrameBuffer,
 }
 
 // What feeding comes to, and how many bytes of the piece it took.

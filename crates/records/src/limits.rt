@@ -39,6 +39,3 @@ pub const LAST_HOLIDAY: u8 = 99;
 pub const FIRST_USER: u32 = 1;
 
 pub const LAST_TYPE: u8 = 5;
-
-// The year of year byte 0.
-pub const FIRST_YEAR: u16 = 2000;

@@ -6,10 +6,10 @@ ghost use Rattle.records.specs.Windows.{minute_bytes, minute_ranges, minute_said
 ghost use Rattle.calendar.specs.Dates.{minute_number};
 ghost use Rattle.std.specs.List.{between};
 
-use crate::limits::{FIRST_YEAR, WINDOW_SIZE};
+use crate::limits::WINDOW_SIZE;
 use crate::record::Misfit;
 use crate::window::{Kept, Validity, Window};
-use calendar::{Date, Minute, TimeOfDay};
+use calendar::{Date, FIRST_YEAR, Minute, TimeOfDay};
 
 // The minute that five bytes name.
 fn minute_of(bytes: &[u8; 5]) -> Result<Minute, Misfit>

@@ -1,30 +1,28 @@
 -- What is printed of an entry is read back.
-use Rattle.std.proofs.Common.{◌≡◌, ℕ, ◌+◌, ◌-◌, ◌*◌, ◌/◌, ◌%◌, ◌^◌, ◌<◌, ◌≤◌, true, false, ◌&&◌, eqb, leb, ◌⊎◌, List, [], ◌∷◌, ◌++◌, length, get_or, Some, Ok, decimal, Result, refl, ap, ◌∙◌, subst, inl, inr, ⊎_elim, append_assoc, append-nil, arith, rules}
+use Rattle.std.proofs.Common.{◌≡◌, ℕ, ◌+◌, ◌-◌, ◌*◌, ◌/◌, ◌%◌, ◌^◌, ◌<◌, ◌≤◌, true, false, eqb, ◌⊎◌, List, [], ◌∷◌, ◌++◌, length, get_or, Some, Ok, decimal, Option, Result, refl, ap, ◌∙◌, subst, inl, inr, append_assoc, append-nil, arith, rules}
 use Rattle.std.specs.Result.{result_map_both}
-use Rattle.std.specs.Int.{is_in_range}
-use Rattle.std.specs.Char.{is_ascii_digit}
 use Rattle.std.specs.Str.{all_ascii_digits}
 use Rattle.std.proofs.lemmas.Fmt.{decimal_digit, decimal_nonempty, digits_decimal, digits_value-decimal}
 use Rattle.std.proofs.lemmas.Str.Parse.{IsNumeralModel, numerals_by_fold}
-use Rattle.std.proofs.lemmas.Bool.{cases_eq, eq-eqb, ne_eqb, and_parts, cond-false}
 use Rattle.std.proofs.lemmas.Bool.Decides.{nat_tests}
 use Rattle.script.specs.declared.entries.Fault.{Fault}
 use Rattle.script.specs.declared.entries.Fault.TheVariants as fault
 use Rattle.script.specs.declared.entries.Setup.{Setup}
 use Rattle.script.specs.declared.entries.Showing.{Showing}
 use Rattle.script.specs.Back.{Bytes, SetupFits, ShowingFits, ReadsBack}
-use Rattle.script.specs.Entries.{setup, send, withdraw, reply, show, event, refused}
-use Rattle.script.specs.Fields.{then, skip, ends, hex_run, hex_word, number_from, number_here, number_word, two_digits, three_pairs}
+use Rattle.script.specs.Entries.{Said, setup, send, withdraw, reply, show, event, refused}
+use Rattle.script.specs.Fields.{then, skip, ends, hex_run, hex_word, number_from, number_word, two_digits, three_pairs}
 use Rattle.script.specs.Hex.{figure_of, hex_text}
-use Rattle.script.specs.Printing.{padded, print_day, print_time, print_direction, print_setup, print_show}
+use Rattle.script.specs.Printing.{padded, print_day, print_time, print_direction, print_said}
 use Rattle.script.specs.Reading.{fault_of, ask, blank, finished, one_byte, read_day, read_direction, read_setup, read_show, read_code, read_line}
-use Rattle.script.proofs.LineLaws.{some_said}
 use Rattle.script.proofs.HexLaws.{figure_reads, reads_printed, whole}
+
+abbrev some_said : Result Said Fault → Result (Option Said) Fault
+some_said r = result_map_both (λ s. Some s) (λ e. e) r
 
 -- a figure is none of the characters below 0 or above F
 figure_plain : (n c : ℕ) → n < 16 → (c < 48) ⊎ (70 < c) → eqb (figure_of n) c ≡ false
-figure_plain n c h (inl p) = grind (arith, nat_tests)
-figure_plain n c h (inr p) = grind (arith, nat_tests)
+figure_plain n c h p = grind (arith, nat_tests)
 
 run_back : (bs rest : List ℕ) → Bytes bs → hex_run (length bs) (hex_text bs ++ rest) ≡ Some (bs, rest)
 run_back [] rest h = refl
@@ -54,19 +52,11 @@ ended limit n (c ∷ cs) e = rw e
 
 digits_back : (limit n : ℕ) (ds rest : List ℕ) → all_ascii_digits ds ≡ true → read_on n ds ≤ limit → ends rest ≡ true → number_from limit n (ds ++ rest) ≡ Some (read_on n ds, rest)
 digits_back limit n [] rest d small e = ended limit n rest e
-digits_back limit n (c ∷ cs) rest d small e =
-    let both = and_parts (is_ascii_digit c) (all_ascii_digits cs) d in
-    let more = read_on_ge (10 * n + (c - 48)) cs in
-    let space : eqb c 32 ≡ false = grind (arith, nat_tests) in
-    let fine : (is_in_range 48 57 c && leb (10 * n + (c - 48)) limit) ≡ true = grind (arith, nat_tests) in
-    rw (space, fine) (digits_back limit (10 * n + (c - 48)) cs rest both.1 small e)
+digits_back limit n (c ∷ cs) rest d small e = grind (arith, nat_tests, read_on_ge (10 * n + (c - 48)) cs, digits_back limit (10 * n + (c - 48)) cs rest)
 
 number_start : (limit : ℕ) (ds rest : List ℕ) → all_ascii_digits ds ≡ true → 0 < length ds → number_word limit (32 ∷ (ds ++ rest)) ≡ number_from limit 0 (ds ++ rest)
 number_start limit [] rest d some = absurd (omega arith)
-number_start limit (c ∷ cs) rest d some =
-    let both = and_parts (is_ascii_digit c) (all_ascii_digits cs) d in
-    let space : eqb c 32 ≡ false = grind (arith, nat_tests) in
-    ap (number_here limit) (cond-false (eqb c 32) (skip (cs ++ rest)) (c ∷ (cs ++ rest)) space)
+number_start limit (c ∷ cs) rest d some = grind (arith, nat_tests)
 
 number_back : (limit n : ℕ) (rest : List ℕ) → n ≤ limit → n < 2 ^ 64 → ends rest ≡ true → number_word limit (32 ∷ (decimal n ++ rest)) ≡ Some (n, rest)
 number_back limit n rest small fits e =
@@ -75,24 +65,14 @@ number_back limit n rest small fits e =
     number_start limit (decimal n) rest d (decimal_nonempty n fits) ∙ digits_back limit 0 (decimal n) rest d (omega arith) e ∙ ap (λ x. Some (x, rest)) v
 
 two_back : (n : ℕ) (rest : List ℕ) → n < 100 → two_digits (padded n ++ rest) ≡ Some (n, rest)
-two_back n rest small =
-    let tens : n / 10 < 10 = omega arith in
-    let ones : n % 10 < 10 = omega arith in
-    let fine : (is_in_range 48 57 (48 + n / 10) && is_in_range 48 57 (48 + n % 10)) ≡ true = grind (arith, nat_tests) in
-    let value : 10 * (48 + n / 10 - 48) + (48 + n % 10 - 48) ≡ n = omega arith in
-    rw (decimal_digit (n / 10) tens, decimal_digit (n % 10) ones, fine, value)
+two_back n rest small = grind (arith, nat_tests, decimal_digit (n / 10), decimal_digit (n % 10))
 
 -- digits are no spaces
 skip_padded : (n : ℕ) (rest : List ℕ) → n < 100 → skip (padded n ++ rest) ≡ padded n ++ rest
-skip_padded n rest small =
-    let tens : n / 10 < 10 = omega arith in
-    let space : eqb (48 + n / 10) 32 ≡ false = grind (arith, nat_tests) in
-    rw (decimal_digit (n / 10) tens, space)
+skip_padded n rest small = grind (arith, nat_tests, decimal_digit (n / 10))
 
 three_back : (mark a b c : ℕ) (rest : List ℕ) → a < 100 → b < 100 → c < 100 → ends rest ≡ true → three_pairs mark (padded a ++ (mark ∷ (padded b ++ (mark ∷ (padded c ++ rest))))) ≡ Some ((a, b, c), rest)
-three_back mark a b c rest pa pb pc e =
-    let same = eq-eqb mark mark refl in
-    rw (two_back a (mark ∷ (padded b ++ (mark ∷ (padded c ++ rest)))) pa, same, two_back b (mark ∷ (padded c ++ rest)) pb, same, two_back c rest pc, e)
+three_back mark a b c rest pa pb pc e = grind (arith, nat_tests, two_back)
 
 byte_back : (n : ℕ) (rest : List ℕ) → n < 256 → ends rest ≡ true → one_byte (32 ∷ (hex_text (n ∷ []) ++ rest)) ≡ Some (n, rest)
 byte_back n rest small e = ap (λ r. then r (λ (p : List ℕ × List ℕ). Some (get_or p.0 0 0, p.1))) (word_back 1 (n ∷ []) rest (omega arith) refl (small, tt) e)
@@ -106,24 +86,10 @@ direction_other n small =
     ap read_direction plain ∙ word ∙ byte_back n [] small refl
 
 direction_back : (n : ℕ) → n < 256 → read_direction (skip (32 ∷ print_direction n)) ≡ Some (n, [])
-direction_back n small =
-    ⊎_elim
-    (λ e. rw e)
-    (λ ne.
-    ⊎_elim
-    (λ e. rw e)
-    (λ ne2.
-    let first = ne_eqb n 1 ne in
-    let second = ne_eqb n 2 ne2 in
-    let other : print_direction n ≡ hex_text (n ∷ []) = rw (first, second) in
-    ap (λ t. read_direction (skip t)) other ∙ direction_other n small)
-    (cases_eq n 2))
-    (cases_eq n 1)
+direction_back n small = grind (arith, nat_tests, direction_other n small)
 
 day_back : (y m d : ℕ) (rest : List ℕ) → y < 10000 → m < 100 → d < 100 → ends rest ≡ true → read_day (padded (y / 100) ++ (padded (y % 100) ++ (45 ∷ (padded m ++ (45 ∷ (padded d ++ rest)))))) ≡ Some ((y, m, d), rest)
-day_back y m d rest py pm pd e =
-    let value : 100 * (y / 100) + y % 100 ≡ y = omega arith in
-    rw (two_back (y / 100) (padded (y % 100) ++ (45 ∷ (padded m ++ (45 ∷ (padded d ++ rest))))) (omega arith), three_back 45 (y % 100) m d rest (omega arith) pm pd e, value)
+day_back y m d rest py pm pd e = grind (arith, two_back, three_back)
 
 setup_steps : (t after_tid after_mac after_user tid mac : List ℕ) (user : ℕ) → hex_word 2 t ≡ Some (tid, after_tid) → hex_word 6 after_tid ≡ Some (mac, after_mac) → number_word 4294967295 after_mac ≡ Some (user, after_user) → blank after_user ≡ true → read_setup t ≡ Ok (record { tid = get_or tid 0 0 * 256 + get_or tid 1 0; mac = mac; last_user = user })
 setup_steps t after_tid after_mac after_user tid mac user p q r e = rw (p, q, r, e)
@@ -132,7 +98,7 @@ number_last : (limit n : ℕ) → n ≤ limit → n < 2 ^ 64 → number_word lim
 number_last limit n small fits =
     subst (λ t. number_word limit (32 ∷ t) ≡ Some (n, [])) (append-nil (decimal n)) (number_back limit n [] small fits refl)
 
-setup_back : (s : Setup) → SetupFits s → read_line (print_setup s) ≡ Ok (Some (setup s))
+setup_back : (s : Setup) → SetupFits s → read_line (print_said (setup s)) ≡ Ok (Some (setup s))
 setup_back s h =
     let tid : List ℕ = s.tid / 256 % 256 ∷ s.tid % 256 ∷ [] in
     let last : List ℕ = 32 ∷ decimal s.last_user in
@@ -148,7 +114,7 @@ setup_back s h =
 show_steps : (t t1 t2 t3 t4 t5 card : List ℕ) (door : ℕ) (day time : ℕ × ℕ × ℕ) (direction : ℕ) → hex_word 8 t ≡ Some (card, t1) → number_word 255 t1 ≡ Some (door, t2) → read_day (skip t2) ≡ Some (day, t3) → three_pairs 58 (skip t3) ≡ Some (time, t4) → read_direction (skip t4) ≡ Some (direction, t5) → blank t5 ≡ true → read_show t ≡ Ok (record { card = card; door = door; year = day.0; month = day.1; date = day.2; hour = time.0; minute = time.1; second = time.2; direction = direction })
 show_steps t t1 t2 t3 t4 t5 card door day time direction p q r u v e = rw (p, q, r, u, v, e)
 
-show_back : (s : Showing) → ShowingFits s → read_line (print_show s) ≡ Ok (Some (show s))
+show_back : (s : Showing) → ShowingFits s → read_line (print_said (show s)) ≡ Ok (Some (show s))
 show_back s h =
     let t4 : List ℕ = 32 ∷ print_direction s.direction in
     let t3 : List ℕ = 32 ∷ (print_time s ++ t4) in

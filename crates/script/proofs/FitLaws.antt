@@ -1,8 +1,8 @@
 -- What is read of a line fits the form in which a line writes it.
-use Rattle.std.proofs.Common.{◌≡◌, ℕ, zero, suc, ◌+◌, ◌-◌, ◌*◌, ◌<◌, ◌≤◌, Bool, true, false, cond, ◌&&◌, eqb, leb, ◌⊎◌, List, [], ◌∷◌, length, get_or, Some, None, Ok, Err, codes, Option, Result, sym, refl, ap, subst, inl, inr, ⊎_elim, arith}
+use Rattle.std.proofs.Common.{◌≡◌, ℕ, zero, suc, ◌+◌, ◌-◌, ◌*◌, ◌<◌, ◌≤◌, Bool, true, false, cond, eqb, List, [], ◌∷◌, length, get_or, Some, None, Ok, Err, Option, Result, refl, ap, subst, arith}
 use Rattle.std.specs.Result.{result_map_both}
-use Rattle.std.specs.Int.{is_in_range}
 use Rattle.std.proofs.lemmas.Bool.Decides.{nat_tests}
+use Rattle.std.proofs.lemmas.Option.{cond_some}
 use Rattle.script.specs.declared.entries.Fault.{Fault}
 use Rattle.script.specs.declared.entries.Fault.TheVariants as fault
 use Rattle.script.specs.declared.entries.Kind.{Kind}
@@ -10,48 +10,33 @@ use Rattle.script.specs.declared.entries.Kind.TheVariants as kind
 use Rattle.script.specs.declared.entries.Setup.{Setup}
 use Rattle.script.specs.declared.entries.Showing.{Showing}
 use Rattle.script.specs.Back.{Bytes, SetupFits, ShowingFits, Fits, ReadsAgain}
-use Rattle.script.specs.Entries.{Said, setup, send, withdraw, reply, show, event, refused}
-use Rattle.script.specs.Fields.{then, skip, ends, after_mark, after_word, hex_byte, hex_run, hex_word, number_from, number_here, number_word, two_digits, three_pairs}
-use Rattle.script.specs.Hex.{digit_of, hex_bytes}
-use Rattle.script.specs.Reading.{fault_of, ask, worded, blank, one_byte, read_day, read_direction, read_setup, read_show, read_code, read_kind, read_entry, read_text, read_line}
+use Rattle.script.specs.Entries.{Said, show}
+use Rattle.script.specs.Fields.{then, skip, ends, hex_byte, hex_run, hex_word, number_from, number_here, number_word, two_digits, three_pairs}
+use Rattle.script.specs.Reading.{ask, blank, one_byte, read_day, read_direction, read_setup, read_show, read_code, read_kind, read_entry, read_text, read_line}
 use Rattle.script.proofs.BackLaws.{reads_back}
-use Rattle.script.proofs.HexLaws.{figure_normal, reads_bytes}
+use Rattle.script.proofs.HexLaws.{reads_bytes}
 
 -- what stands behind each answer that is no refusal
 then_some : {A B : Type 0} (r : Option A) (next : A → Option B) (y : B) → then r next ≡ Some y → (x : A) × (r ≡ Some x) × (next x ≡ Some y)
-then_some None next y e = let z : ◌≡◌ {A = ℕ} 0 1 = cc in absurd (omega arith)
+then_some None next y e = cc
 then_some (Some x) next y e = (x, refl, e)
 
 ask_ok : {A B : Type 0} (f : Fault) (r : Option (A × List ℕ)) (next : A → List ℕ → Result B Fault) (y : B) → ask f r next ≡ Ok y → (p : A × List ℕ) × (r ≡ Some p) × (next p.0 p.1 ≡ Ok y)
-ask_ok f None next y e = let z : ◌≡◌ {A = ℕ} 0 1 = cc in absurd (omega arith)
+ask_ok f None next y e = cc
 ask_ok f (Some p) next y e = (p, refl, e)
 
 mapped_ok : {A B E D : Type 0} (f : A → B) (g : E → D) (r : Result A E) (y : B) → result_map_both f g r ≡ Ok y → (x : A) × (r ≡ Ok x) × (f x ≡ y)
 mapped_ok f g (Ok x) y e = (x, refl, cc)
-mapped_ok f g (Err d) y e = let z : ◌≡◌ {A = ℕ} 0 1 = cc in absurd (omega arith)
-
-cond_some : {A : Type 0} (b : Bool) (x y : A) → cond b (Some x) None ≡ Some y → x ≡ y
-cond_some true x y e = cc
-cond_some false x y e = let z : ◌≡◌ {A = ℕ} 0 1 = cc in absurd (omega arith)
+mapped_ok f g (Err d) y e = cc
 
 cond_ok : {A : Type 0} (b : Bool) (f : Fault) (x y : A) → cond b (Ok x) (Err f) ≡ Ok y → x ≡ y
 cond_ok true f x y e = cc
-cond_ok false f x y e = let z : ◌≡◌ {A = ℕ} 0 1 = cc in absurd (omega arith)
-
-worded_some : {A : Type 0} (r : Option (List ℕ)) (x : A) (others : Option (A × List ℕ)) (p : A × List ℕ) → worded r x others ≡ Some p → (p.0 ≡ x) ⊎ (others ≡ Some p)
-worded_some (Some rest) x others p e = let same : (x, rest) ≡ p = cc in inl (ap (λ q. q.0) (sym same))
-worded_some None x others p e = inr e
+cond_ok false f x y e = cc
 
 byte_fits : (t : List ℕ) (p : ℕ × List ℕ) → hex_byte t ≡ Some p → p.0 < 256
-byte_fits [] p e = let z : ◌≡◌ {A = ℕ} 0 1 = cc in absurd (omega arith)
-byte_fits (a ∷ []) p e = let z : ◌≡◌ {A = ℕ} 0 1 = cc in absurd (omega arith)
-byte_fits (a ∷ b ∷ rest) p e =
-    let high = then_some (digit_of a) _ p e in
-    let low = then_some (digit_of b) _ p high.2 in
-    let first = (figure_normal a high.0 high.1).1 in
-    let second = (figure_normal b low.0 low.1).1 in
-    let is : (16 * high.0 + low.0, rest) ≡ p = cc low.2 in
-    subst (λ (q : ℕ × List ℕ). q.0 < 256) is (omega arith)
+byte_fits [] p e = cc
+byte_fits (a ∷ []) p e = cc
+byte_fits (a ∷ b ∷ rest) p e = grind (arith, nat_tests)
 
 run_fits : (n : ℕ) (t : List ℕ) (p : List ℕ × List ℕ) → hex_run n t ≡ Some p → Bytes p.0 × (length p.0 ≡ n)
 run_fits zero t p e = let is : ([], t) ≡ p = cc in subst (λ (q : List ℕ × List ℕ). Bytes q.0 × (length q.0 ≡ 0)) is (tt, refl)
@@ -65,41 +50,27 @@ run_fits (suc n) t p e =
 word_fits : (n : ℕ) (t : List ℕ) (p : List ℕ × List ℕ) → hex_word n t ≡ Some p → Bytes p.0 × (length p.0 ≡ n)
 word_fits n t p e =
     let run = then_some (hex_run n t) _ p e in
-    let is = cond_some (ends run.0.1) run.0 p run.2 in
+    let is = (cond_some (ends run.0.1) run.0 p run.2).1 in
     subst (λ (q : List ℕ × List ℕ). Bytes q.0 × (length q.0 ≡ n)) is (run_fits n t run.0 run.1)
 
-one_digit_fits : (limit n m : ℕ) (t : List ℕ) (others : Option (ℕ × List ℕ)) (p : ℕ × List ℕ) → n ≤ limit → (m ≤ limit → others ≡ Some p → p.0 ≤ limit) → (space digit small : Bool) → leb m limit ≡ small → cond space (Some (n, t)) (cond (digit && small) others None) ≡ Some p → p.0 ≤ limit
-one_digit_fits limit n m t others p h rest true digit small l e = let is : (n, t) ≡ p = cc in subst (λ (q : ℕ × List ℕ). q.0 ≤ limit) is h
-one_digit_fits limit n m t others p h rest false true true l e = rest (grind (arith, nat_tests)) e
-one_digit_fits limit n m t others p h rest false true false l e = let z : ◌≡◌ {A = ℕ} 0 1 = cc in absurd (omega arith)
-one_digit_fits limit n m t others p h rest false false small l e = let z : ◌≡◌ {A = ℕ} 0 1 = cc in absurd (omega arith)
-
 digits_fit : (limit n : ℕ) (t : List ℕ) (p : ℕ × List ℕ) → n ≤ limit → number_from limit n t ≡ Some p → p.0 ≤ limit
-digits_fit limit n [] p h e = let is : (n, []) ≡ p = cc in subst (λ (q : ℕ × List ℕ). q.0 ≤ limit) is h
-digits_fit limit n (c ∷ cs) p h e =
-    one_digit_fits limit n (10 * n + (c - 48)) (c ∷ cs) (number_from limit (10 * n + (c - 48)) cs) p h (λ small found. digits_fit limit (10 * n + (c - 48)) cs p small found) (eqb c 32) (is_in_range 48 57 c) (leb (10 * n + (c - 48)) limit) refl e
+digits_fit limit n [] p h e = grind arith
+digits_fit limit n (c ∷ cs) p h e = grind (arith, nat_tests, digits_fit limit (10 * n + (c - 48)) cs p)
 
 here_fits : (limit : ℕ) (t : List ℕ) (p : ℕ × List ℕ) → number_here limit t ≡ Some p → p.0 ≤ limit
-here_fits limit [] p e = let z : ◌≡◌ {A = ℕ} 0 1 = cc in absurd (omega arith)
+here_fits limit [] p e = cc
 here_fits limit (c ∷ cs) p e = digits_fit limit 0 (c ∷ cs) p (omega arith) e
 
 two_fit : (t : List ℕ) (p : ℕ × List ℕ) → two_digits t ≡ Some p → p.0 < 100
-two_fit [] p e = let z : ◌≡◌ {A = ℕ} 0 1 = cc in absurd (omega arith)
-two_fit (a ∷ []) p e = let z : ◌≡◌ {A = ℕ} 0 1 = cc in absurd (omega arith)
+two_fit [] p e = cc
+two_fit (a ∷ []) p e = cc
 two_fit (a ∷ b ∷ rest) p e = grind (arith, nat_tests)
 
 abbrev Pairs : ℕ × ℕ × ℕ → Type 0
 Pairs x = (x.0 < 100) × (x.1 < 100) × (x.2 < 100)
 
 three_fit : (mark : ℕ) (t : List ℕ) (p : (ℕ × ℕ × ℕ) × List ℕ) → three_pairs mark t ≡ Some p → Pairs p.0
-three_fit mark t p e =
-    let a = then_some (two_digits t) _ p e in
-    let m = then_some (after_mark mark a.0.1) _ p a.2 in
-    let b = then_some (two_digits m.0) _ p m.2 in
-    let n = then_some (after_mark mark b.0.1) _ p b.2 in
-    let c = then_some (two_digits n.0) _ p n.2 in
-    let is = cond_some (ends c.0.1) ((a.0.0, b.0.0, c.0.0), c.0.1) p c.2 in
-    subst (λ (q : (ℕ × ℕ × ℕ) × List ℕ). Pairs q.0) is (two_fit t a.0 a.1, two_fit m.0 b.0 b.1, two_fit n.0 c.0 c.1)
+three_fit mark t p e = grind (arith, nat_tests, two_fit)
 
 abbrev Day : ℕ × ℕ × ℕ → Type 0
 Day x = (x.0 < 10000) × (x.1 < 100) × (x.2 < 100)
@@ -119,17 +90,10 @@ get_or_fits (a ∷ []) h = (h.0, omega arith)
 get_or_fits (a ∷ b ∷ bs) h = (h.0, h.1.0)
 
 one_byte_fits : (t : List ℕ) (p : ℕ × List ℕ) → one_byte t ≡ Some p → p.0 < 256
-one_byte_fits t p e =
-    let word = then_some (hex_word 1 t) _ p e in
-    let is : (get_or word.0.0 0 0, word.0.1) ≡ p = cc word.2 in
-    subst (λ (q : ℕ × List ℕ). q.0 < 256) is (get_or_fits word.0.0 (word_fits 1 t word.0 word.1).0).0
+one_byte_fits t p e = grind (arith, nat_tests, word_fits 1 t, get_or_fits)
 
 direction_fits : (t : List ℕ) (p : ℕ × List ℕ) → read_direction t ≡ Some p → p.0 < 256
-direction_fits t p e =
-    ⊎_elim
-    (λ is. omega arith)
-    (λ others. ⊎_elim (λ is. omega arith) (λ byte. one_byte_fits t p byte) (worded_some (after_word (codes "out") t) 2 (one_byte t) p others))
-    (worded_some (after_word (codes "in") t) 1 (worded (after_word (codes "out") t) 2 (one_byte t)) p e)
+direction_fits t p e = grind (arith, nat_tests, one_byte_fits t)
 
 setup_fits : (t : List ℕ) (s : Setup) → read_setup t ≡ Ok s → SetupFits s
 setup_fits t s e =
@@ -168,22 +132,19 @@ show_fits t s e =
     })
 
 code_fits : (t : List ℕ) (n : ℕ) → read_code t ≡ Ok n → n < 256
-code_fits t n e =
-    let code = ask_ok fault.Code (one_byte t) _ n e in
-    let is = cond_ok (blank code.0.1) fault.After code.0.0 n code.2 in
-    subst (λ k. k < 256) is (one_byte_fits t code.0 code.1)
+code_fits t n e = grind (arith, nat_tests, one_byte_fits t)
 
 entry_fits : (k : Kind) (t : List ℕ) (s : Said) → read_entry k t ≡ Ok s → Fits s
-entry_fits kind.Setup t s e = let m = mapped_ok (λ s. setup s) (λ e. e) (read_setup t) s e in subst Fits m.2 (setup_fits t m.0 m.1)
-entry_fits kind.Send t s e = let m = mapped_ok (λ bs. send bs) fault_of (hex_bytes t) s e in subst Fits m.2 (reads_bytes t m.0 m.1)
-entry_fits kind.Withdraw t s e = let m = mapped_ok (λ bs. withdraw bs) fault_of (hex_bytes t) s e in subst Fits m.2 (reads_bytes t m.0 m.1)
-entry_fits kind.Reply t s e = let m = mapped_ok (λ bs. reply bs) fault_of (hex_bytes t) s e in subst Fits m.2 (reads_bytes t m.0 m.1)
+entry_fits kind.Setup t s e = grind (arith, setup_fits t)
+entry_fits kind.Send t s e = grind (arith, reads_bytes t)
+entry_fits kind.Withdraw t s e = grind (arith, reads_bytes t)
+entry_fits kind.Reply t s e = grind (arith, reads_bytes t)
 entry_fits kind.Show t s e = let m = mapped_ok (λ s. show s) (λ e. e) (read_show t) s e in subst Fits m.2 (show_fits t m.0 m.1)
-entry_fits kind.Event t s e = let m = mapped_ok (λ n. event n) (λ e. e) (read_code t) s e in subst Fits m.2 (code_fits t m.0 m.1)
-entry_fits kind.Refused t s e = let m = mapped_ok (λ n. refused n) (λ e. e) (read_code t) s e in subst Fits m.2 (code_fits t m.0 m.1)
+entry_fits kind.Event t s e = grind (arith, code_fits t)
+entry_fits kind.Refused t s e = grind (arith, code_fits t)
 
 kind_fits : (t : List ℕ) (s : Said) (remark : Bool) → cond remark (Ok None) (ask fault.Word (read_kind t) (λ k t. result_map_both (λ s. Some s) (λ e. e) (read_entry k t))) ≡ Ok (Some s) → Fits s
-kind_fits t s true e = let z : ◌≡◌ {A = ℕ} 0 1 = cc in absurd (omega arith)
+kind_fits t s true e = cc
 kind_fits t s false e =
     let word = ask_ok fault.Word (read_kind t) _ (Some s) e in
     let m = mapped_ok (λ s. Some s) (λ e. e) (read_entry word.0.0 word.0.1) (Some s) word.2 in
@@ -191,7 +152,7 @@ kind_fits t s false e =
     subst Fits same (entry_fits word.0.0 word.0.1 m.0 m.1)
 
 text_fits : (t : List ℕ) (s : Said) → read_text t ≡ Ok (Some s) → Fits s
-text_fits [] s e = let z : ◌≡◌ {A = ℕ} 0 1 = cc in absurd (omega arith)
+text_fits [] s e = cc
 text_fits (c ∷ cs) s e = kind_fits (c ∷ cs) s (eqb c 35) e
 
 line_fits : (t : List ℕ) (s : Said) → read_line t ≡ Ok (Some s) → Fits s

@@ -1,41 +1,25 @@
 -- What the loops of `hex` keep, and the laws of reading and printing.
-use Rattle.std.proofs.Common.{◌≡◌, ℕ, ◌+◌, ◌*◌, ◌/◌, ◌%◌, ◌<◌, ◌≤◌, Bool, true, false, eqb, List, [], ◌∷◌, ◌++◌, length, get_or, drop, Some, None, Ok, Err, Option, Result, sym, refl, ap, ◌∙◌, append_assoc, arith}
+use Rattle.std.proofs.Common.{◌≡◌, ℕ, ◌+◌, ◌*◌, ◌/◌, ◌%◌, ◌<◌, Bool, true, false, eqb, List, [], ◌∷◌, ◌++◌, length, get_or, take, Some, None, Ok, Err, Option, Result, sym, refl, ap, ◌∙◌, arith}
 use Rattle.std.specs.Char.{to_ascii_uppercase}
 use Rattle.std.specs.List.{AllByRecursion}
-use Rattle.std.proofs.lemmas.List.{at_drop_more, at_drop_all}
+use Rattle.std.proofs.lemmas.List.{take_more}
 use Rattle.std.proofs.lemmas.Bool.Decides.{nat_tests}
 use Rattle.script.specs.declared.hex.HexFault.{HexFault}
-use Rattle.script.specs.Hex.{digit_of, figure_of, onto, turn, ended, hex_from, hex_text, normal, ReadsPrinted, PrintsNormal, ReadsBytes}
+use Rattle.script.specs.Hex.{digit_of, figure_of, onto, turn, hex_from, hex_text, normal, ReadsPrinted, PrintsNormal, ReadsBytes}
 
 -- a digit's value is below 16
 abbrev pub Low : Option ℕ → Type 0
 Low None = Unit {0}
 Low (Some d) = d < 16
 
-pub low_digit : (c : ℕ) → Low (digit_of c)
-low_digit c = grind (arith, nat_tests)
-
 -- a figure is not a space, and is the digit of its value
 pub figure_reads : (n : ℕ) → n < 16 → digit_of (figure_of n) ≡ Some n
 figure_reads n h = grind (arith, nat_tests)
-
-pub figure_ascii : (n : ℕ) → n < 16 → figure_of n < 128
-figure_ascii n h = grind (arith, nat_tests)
 
 -- bytes read before the others
 abbrev pub after : List ℕ → Result (List ℕ) HexFault → Result (List ℕ) HexFault
 after xs (Ok ys) = Ok (xs ++ ys)
 after xs (Err e) = Err e
-
-pub after_onto : (xs : List ℕ) (b : ℕ) (r : Result (List ℕ) HexFault) → after xs (onto b r) ≡ after (xs ++ b ∷ []) r
-after_onto xs b (Ok ys) = ap (λ l. Ok l) (sym (append_assoc xs (b ∷ []) ys))
-after_onto xs b (Err e) = refl
-
-pub step : (xs text : List ℕ) (first : Option ℕ) (i : ℕ) → i < length text → after xs (hex_from first (drop i text)) ≡ after xs (turn first (digit_of (get_or text i 0)) (eqb (get_or text i 0) 32) (λ next. hex_from next (drop (i + 1) text)))
-step xs text first i h = ap (after xs) (at_drop_more (hex_from first) text i 0 h)
-
-pub last : (xs text : List ℕ) (first : Option ℕ) (i : ℕ) → length text ≤ i → after xs (hex_from first (drop i text)) ≡ after xs (ended first)
-last xs text first i h = ap (after xs) (at_drop_all (hex_from first) text i h)
 
 pub whole : (b : ℕ) → 16 * (b / 16) + b % 16 ≡ b
 whole b = omega arith
@@ -56,15 +40,12 @@ shown (Some high) t = figure_of high ∷ t
 
 pub ok_onto : (b : ℕ) (r : Result (List ℕ) HexFault) (bs : List ℕ) → onto b r ≡ Ok bs → (rest : List ℕ) × (r ≡ Ok rest) × (bs ≡ b ∷ rest)
 ok_onto b (Ok ys) bs e = (ys, refl, cc)
-ok_onto b (Err x) bs e = let z : ◌≡◌ {A = ℕ} 0 1 = cc in absurd (omega arith)
+ok_onto b (Err x) bs e = cc
 
 -- what is read of a text, after a first digit or none
 record Read (first : Option ℕ) (t bs : List ℕ) : Type 0 where
   text : hex_text bs ≡ shown first (normal t)
   small : AllByRecursion (λ b. b < 256) bs
-
-never_ok : {e : HexFault} {bs : List ℕ} → Err e ≡ Ok bs → ⊥
-never_ok h = let z : ◌≡◌ {A = ℕ} 0 1 = cc in omega arith
 
 -- the byte of two digits, and its figures
 two_figures : (high d : ℕ) → high < 16 → d < 16 → (figure_of ((16 * high + d) / 16) ≡ figure_of high) × (figure_of ((16 * high + d) % 16) ≡ figure_of d)
@@ -89,7 +70,7 @@ module _ (c : ℕ) (cs : List ℕ) (rest : (first : Option ℕ) (bs : List ℕ) 
   turned None None true bs low is blank e =
       let r = rest None bs tt e in
       record { text = r.text ∙ sym (normal_space c cs blank); small = r.small }
-  turned None None false bs low is blank e = absurd (never_ok e)
+  turned None None false bs low is blank e = cc
   turned (Some high) (Some d) space bs low is blank e =
       let f = figure_normal c d is in
       let o = ok_onto (16 * high + d) (hex_from None cs) bs e in
@@ -99,11 +80,11 @@ module _ (c : ℕ) (cs : List ℕ) (rest : (first : Option ℕ) (bs : List ℕ) 
         text = rw (two.0, two.1, r.text, normal_digit c d cs is);
         small = (omega arith, r.small);
       })
-  turned (Some high) None space bs low is blank e = absurd (never_ok e)
+  turned (Some high) None space bs low is blank e = cc
 
 reads : (t : List ℕ) (first : Option ℕ) (bs : List ℕ) → Low first → hex_from first t ≡ Ok bs → Read first t bs
 reads [] None bs low e = let none : bs ≡ [] = cc in rw none (record { text = refl; small = tt })
-reads [] (Some high) bs low e = absurd (never_ok e)
+reads [] (Some high) bs low e = cc
 reads (c ∷ cs) first bs low e = turned c cs (reads cs) first (digit_of c) (eqb c 32) bs low refl refl e
 
 pub prints_normal : PrintsNormal
@@ -111,3 +92,11 @@ prints_normal t bs e = (reads t None bs tt e).text
 
 pub reads_bytes : ReadsBytes
 reads_bytes t bs e = (reads t None bs tt e).small
+
+hex_text-append : (xs ys : List ℕ) → hex_text (xs ++ ys) ≡ hex_text xs ++ hex_text ys
+hex_text-append [] ys = refl
+hex_text-append (x ∷ xs) ys = ap (λ l. figure_of (x / 16) ∷ figure_of (x % 16) ∷ l) (hex_text-append xs ys)
+
+-- one more byte printed
+pub hex_more : (bs : List ℕ) (i : ℕ) → i < length bs → hex_text (take i bs) ++ hex_text (get_or bs i 0 ∷ []) ≡ hex_text (take (i + 1) bs)
+hex_more bs i h = sym (ap hex_text (take_more bs i 0 h) ∙ hex_text-append (take i bs) (get_or bs i 0 ∷ []))

@@ -2,4 +2,4 @@ pub mod BackLaws
 pub mod FieldLaws
 pub mod FitLaws
 pub mod HexLaws
-pub mod LineLaws
+pub mod PrintLaws

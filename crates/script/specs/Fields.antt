@@ -1,7 +1,7 @@
 -- The fields of a line, each read from the front of a text: its value and the text after it.
 use Rattle.std.specs.Prelude.{ℕ, zero, suc, ◌+◌, ◌-◌, ◌*◌, Bool, true, cond, ◌&&◌, List, [], ◌∷◌, Some, None, Option, ◌==◌, nat_le}
 use Rattle.std.specs.Borrow.{Bor}
-use Rattle.std.specs.Option.{option_map}
+use Rattle.std.specs.Option.{option_and_then, option_map}
 use Rattle.std.specs.Int.{is_in_range}
 use Rattle.script.specs.Hex.{digit_of}
 
@@ -9,9 +9,9 @@ use Rattle.script.specs.Hex.{digit_of}
 abbrev pub seen : {A : Type 0} → Option (A × Bor (List ℕ)) → Option (A × List ℕ)
 seen {A} r = option_map (λ (p : A × Bor (List ℕ)). (p.0, p.1.now)) r
 
+-- `and_then`, with the first step in front
 abbrev pub then : {A B : Type 0} → Option A → (A → Option B) → Option B
-then None next = None
-then (Some x) next = next x
+then r next = option_and_then next r
 
 -- the text without the spaces at its front
 abbrev pub skip : List ℕ → List ℕ

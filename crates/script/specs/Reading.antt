@@ -9,7 +9,7 @@ use Rattle.script.specs.declared.entries.Kind.{Kind}
 use Rattle.script.specs.declared.entries.Kind.TheVariants as kind
 use Rattle.script.specs.declared.entries.Setup.{Setup}
 use Rattle.script.specs.declared.entries.Showing.{Showing}
-use Rattle.script.specs.Entries.{Said, setup, send, withdraw, reply, show, event, refused}
+use Rattle.script.specs.Entries.{Said, word_of, setup, send, withdraw, reply, show, event, refused}
 use Rattle.script.specs.Fields.{then, skip, after_word, hex_word, number_word, two_digits, three_pairs}
 use Rattle.script.specs.Hex.{hex_bytes}
 
@@ -76,15 +76,14 @@ read_show t =
 abbrev pub read_code : List ℕ → Result ℕ Fault
 read_code t = ask fault.Code (one_byte t) (λ code t. finished code t)
 
+-- the first kind whose word the text begins with
+abbrev pub kind_among : List Kind → List ℕ → Option (Kind × List ℕ)
+kind_among [] t = None
+kind_among (k ∷ ks) t = worded (after_word (word_of k) t) k (kind_among ks t)
+
 abbrev pub read_kind : List ℕ → Option (Kind × List ℕ)
 read_kind t =
-    worded (after_word (codes "setup") t) kind.Setup
-    (worded (after_word (codes "send") t) kind.Send
-    (worded (after_word (codes "withdraw") t) kind.Withdraw
-    (worded (after_word (codes "reply") t) kind.Reply
-    (worded (after_word (codes "show") t) kind.Show
-    (worded (after_word (codes "event") t) kind.Event
-    (worded (after_word (codes "refused") t) kind.Refused None))))))
+    kind_among (kind.Setup ∷ kind.Send ∷ kind.Withdraw ∷ kind.Reply ∷ kind.Show ∷ kind.Event ∷ kind.Refused ∷ []) t
 
 -- what follows the first word
 abbrev pub read_entry : Kind → List ℕ → Result Said Fault

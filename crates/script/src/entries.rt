@@ -1,9 +1,11 @@
 // What a line of the sheet says, and what may be wrong with it.
 ghost use Rattle.std.specs.Prelude.{◌≡◌, Some};
+ghost use Rattle.script.specs.Entries.{kind_of, said, word_of};
 ghost use Rattle.script.specs.Messages.{words_of};
 ghost use Rattle.script.specs.Reading.{fault_of};
 
 use crate::hex::HexFault;
+use std::error::Error;
 use std::fmt;
 
 // What the controller was set up with; `last_user` is the sheet's MU.
@@ -14,7 +16,7 @@ pub struct Setup {
     pub last_user: u32,
 }
 
-// A card that was shown at a door. Direction 1 is in, 2 is out.
+// A card that was shown at a door. Direction 1 is in, 2 is out, and a sheet may have any other byte: no enum names them.
 #[derive(Clone, Copy, Debug, PartialEq, Eq)]
 pub struct Showing {
     pub card: [u8; 8],
@@ -35,12 +37,29 @@ pub enum Entry {
     Withdraw(Vec<u8>),
     Reply(Vec<u8>),
     Show(Showing),
+    // a number that was written down, right or wrong: a sheet may have any byte, so no enum of events or refusals
     Event(u8),
     Refused(u8),
 }
 
-// The first word of an entry.
-#[derive(Clone, Copy)]
+impl Entry {
+    pub(crate) fn kind(&self) -> Kind
+        ensures { result ≡ kind_of (said self.now) }
+    {
+        match self {
+            Entry::Setup(_) => Kind::Setup,
+            Entry::Send(_) => Kind::Send,
+            Entry::Withdraw(_) => Kind::Withdraw,
+            Entry::Reply(_) => Kind::Reply,
+            Entry::Show(_) => Kind::Show,
+            Entry::Event(_) => Kind::Event,
+            Entry::Refused(_) => Kind::Refused,
+        }
+    }
+}
+
+// What an entry is, by its first word.
+#[derive(Clone, Copy, Debug, PartialEq, Eq)]
 pub enum Kind {
     Setup,
     Send,
@@ -49,6 +68,32 @@ pub enum Kind {
     Show,
     Event,
     Refused,
+}
+
+impl Kind {
+    pub(crate) const ALL: [Kind; 7] = [
+        Kind::Setup,
+        Kind::Send,
+        Kind::Withdraw,
+        Kind::Reply,
+        Kind::Show,
+        Kind::Event,
+        Kind::Refused,
+    ];
+
+    pub(crate) fn word(self) -> &'static str
+        ensures { result.now ≡ word_of self }
+    {
+        match self {
+            Kind::Setup => "setup",
+            Kind::Send => "send",
+            Kind::Withdraw => "withdraw",
+            Kind::Reply => "reply",
+            Kind::Show => "show",
+            Kind::Event => "event",
+            Kind::Refused => "refused",
+        }
+    }
 }
 
 #[derive(Clone, Copy, Debug, PartialEq, Eq)]
@@ -112,3 +157,15 @@ impl fmt::Display for Fault {
         f.write_str(self.words())
     }
 }
+
+impl Error for Fault {}
+
+impl fmt::Display for HexFault {
+    ghost output = { λ e. Some (words_of (fault_of e)) };
+
+    fn fmt<W: fmt::Write>(&self, f: &mut fmt::Formatter<W>) -> fmt::Result {
+        f.write_str(Fault::from(*self).words())
+    }
+}
+
+impl Error for HexFault {}

@@ -16,33 +16,25 @@ pub(crate) fn skip_spaces(text: &[u8]) -> &[u8]
 }
 
 // Whether a word ends where `text` begins.
-pub(crate) fn word_ends(text: &[u8]) -> bool
+fn word_ends(text: &[u8]) -> bool
     ensures { result ≡ ends text.now }
 {
-    match text {
-        [] => true,
-        [c, ..] => *c == b' ',
-    }
+    matches!(text, [] | [b' ', ..])
 }
 
 fn after_mark(text: &[u8], mark: u8) -> Option<&[u8]>
     ensures { option_map (λ x. x.now) result ≡ after_mark mark text.now }
 {
-    match text {
-        [c, rest @ ..] if *c == mark => Some(rest),
-        _ => None,
-    }
+    text.strip_prefix(&[mark])
 }
 
 fn hex_byte(text: &[u8]) -> Option<(u8, &[u8])>
     ensures { seen result ≡ hex_byte text.now }
 {
-    let [a, b, rest @ ..] = text else {
+    let [high, low, rest @ ..] = text else {
         return None;
     };
-    let high = digit(*a)?;
-    let low = digit(*b)?;
-    Some((16 * high + low, rest))
+    Some((16 * digit(*high)? + digit(*low)?, rest))
 }
 
 pub(crate) fn two_digits(text: &[u8]) -> Option<(u8, &[u8])>
@@ -58,14 +50,12 @@ pub(crate) fn two_digits(text: &[u8]) -> Option<(u8, &[u8])>
 }
 
 // The text after `word`, if `text` begins with it and the word ends there.
-pub(crate) fn after_word<'a>(text: &'a [u8], word: &[u8]) -> Option<&'a [u8]>
+#[tactic(auto, using(crate::proofs::FieldLaws::word_front))]
+pub(crate) fn after_word<'a>(text: &'a [u8], word: &str) -> Option<&'a [u8]>
     ensures { option_map (λ x. x.now) result ≡ after_word word.now text.now }
 {
-    let mut rest = text;
-    for c in word {
-        rest = after_mark(rest, *c)?;
-    }
-    if word_ends(rest) { Some(rest) } else { None }
+    text.strip_prefix(word.as_bytes())
+        .filter(|rest| word_ends(rest))
 }
 
 // `N` bytes, with spaces before each or none, and the end of the word.
@@ -74,16 +64,10 @@ pub(crate) fn hex_word<const N: usize>(text: &[u8]) -> Option<([u8; N], &[u8])>
 {
     let mut bytes = [0; N];
     let mut rest = text;
-    for i in 0..N {
-        let (byte, after) = hex_byte(skip_spaces(rest))?;
-        bytes[i] = byte;
-        rest = after;
+    for byte in bytes.iter_mut() {
+        (*byte, rest) = hex_byte(skip_spaces(rest))?;
     }
-    if word_ends(rest) {
-        Some((bytes, rest))
-    } else {
-        None
-    }
+    word_ends(rest).then_some((bytes, rest))
 }
 
 // The number with one more digit, if it is up to `limit`.
@@ -91,12 +75,9 @@ fn next_number(n: u32, c: u8, limit: u32) -> Option<u32>
     requires { (48 ≤ c) × ((c ≤ 57) × (n ≤ limit)) }
     ensures { result ≡ (if nat_le (10 * n + (c - 48)) limit then Some (10 * n + (c - 48)) else None) }
 {
-    let more = 10 * u64::from(n) + u64::from(c - b'0');
-    if more <= u64::from(limit) {
-        Some(more as u32)
-    } else {
-        None
-    }
+    n.checked_mul(10)?
+        .checked_add(u32::from(c - b'0'))
+        .filter(|n| *n <= limit)
 }
 
 // A number of one digit or more, up to `limit`.
@@ -104,19 +85,16 @@ pub(crate) fn number_word(text: &[u8], limit: u32) -> Option<(u32, &[u8])>
     ensures value { seen result ≡ number_word limit text.now }
     ensures bound { IfSome result (λ p. p.0 ≤ limit) }
 {
-    let digits = skip_spaces(text);
-    if digits.is_empty() {
+    let mut rest = skip_spaces(text);
+    if rest.is_empty() {
         return None;
     }
     let mut n = 0;
-    for (i, c) in digits.iter().enumerate() {
-        match *c {
-            b' ' => return Some((n, &digits[i..])),
-            b'0'..=b'9' => n = next_number(n, *c, limit)?,
-            _ => return None,
-        }
+    while let [c @ b'0'..=b'9', after @ ..] = rest {
+        n = next_number(n, *c, limit)?;
+        rest = after;
     }
-    Some((n, &[]))
+    word_ends(rest).then_some((n, rest))
 }
 
 // Three numbers of two digits, with `mark` between them, and the end of the word.
@@ -126,9 +104,5 @@ pub(crate) fn three_pairs(text: &[u8], mark: u8) -> Option<((u8, u8, u8), &[u8])
     let (a, text) = two_digits(text)?;
     let (b, text) = two_digits(after_mark(text, mark)?)?;
     let (c, text) = two_digits(after_mark(text, mark)?)?;
-    if word_ends(text) {
-        Some(((a, b, c), text))
-    } else {
-        None
-    }
+    word_ends(text).then_some(((a, b, c), text))
 }

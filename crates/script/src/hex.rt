@@ -1,9 +1,11 @@
 // Bytes as text: two hexadecimal digits a byte.
-ghost use Rattle.std.specs.Prelude.{◌≡◌, ◌<◌, ◌⊎◌, ◌++◌, IfSome, IfOk, Ok, Err, string_bytes, MatchResult, OnOk};
-ghost use Rattle.script.specs.Hex.{digit_of, figure_of, hex_bytes, hex_text, ReadsPrinted, PrintsNormal, ReadsBytes};
+ghost use Rattle.std.specs.Prelude.{◌≡◌, ◌<◌, IfSome, Some, IfOk, string_bytes};
+ghost use Rattle.script.specs.Hex.{digit_of, hex_bytes, hex_text, ReadsPrinted, PrintsNormal, ReadsBytes};
+ghost use Rattle.script.specs.Outcome.{AnswersAs};
 ghost use Rattle.script.specs.declared.hex.HexFault.TheVariants.{Memory};
 
 use std::alloc::{AllocError, AllocFailed, Global};
+use std::fmt;
 
 #[derive(Clone, Copy, Debug, PartialEq, Eq)]
 pub enum HexFault {
@@ -26,28 +28,13 @@ pub(crate) fn digit(c: u8) -> Option<u8>
     ensures value { result ≡ digit_of c }
     ensures bound { IfSome result (λ d. d < 16) }
 {
-    match c {
-        b'0'..=b'9' => Some(c - b'0'),
-        b'A'..=b'F' => Some(c - b'A' + 10),
-        b'a'..=b'f' => Some(c - b'a' + 10),
-        _ => None,
-    }
-}
-
-fn figure(n: u8) -> char
-    requires { n < 16 }
-    ensures { result ≡ figure_of n }
-{
-    if n < 10 {
-        (b'0' + n) as char
-    } else {
-        (b'A' - 10 + n) as char
-    }
+    char::from(c).to_digit(16).map(|d| d as u8)
 }
 
 // The bytes that `text` writes; the leftmost fault decides.
+#[tactic(auto, using(crate::proofs::HexLaws::prints_normal, crate::proofs::HexLaws::reads_bytes))]
 pub fn from_hex(heap: Global, text: &[u8]) -> Result<Vec<u8>, HexFault>
-    ensures value { MatchResult result (λ v. hex_bytes text.now ≡ Ok v.items) (λ e. (e ≡ Memory) ⊎ (hex_bytes text.now ≡ Err e)) }
+    ensures value { AnswersAs (λ v. v.items) Memory (hex_bytes text.now) result }
     ensures normal { PrintsNormal }
     ensures bytes { ReadsBytes }
 {
@@ -61,9 +48,8 @@ pub fn from_hex(heap: Global, text: &[u8]) -> Result<Vec<u8>, HexFault>
                 first = None;
             }
             (None, None) if *c == b' ' => {}
-            (None, None) => return Err(HexFault::NotHex),
             (Some(_), None) if *c == b' ' => return Err(HexFault::HalfByte),
-            (Some(_), None) => return Err(HexFault::NotHex),
+            (_, None) => return Err(HexFault::NotHex),
         }
     }
     match first {
@@ -72,23 +58,26 @@ pub fn from_hex(heap: Global, text: &[u8]) -> Result<Vec<u8>, HexFault>
     }
 }
 
-// Adds the digits of `bytes` to `out`. Without memory for all of them, `out` has some.
-fn push_hex(out: &mut String, bytes: &[u8]) -> Result<(), AllocError>
-    ensures { OnOk result (string_bytes out.new ≡ string_bytes out.old ++ hex_text bytes.now) }
-{
-    for b in bytes {
-        out.push(figure(*b / 16))?;
-        out.push(figure(*b % 16))?;
+// Bytes as they print: two digits each, in upper case and without spaces.
+#[derive(Clone, Copy)]
+pub(crate) struct Hex<'a>(pub(crate) &'a [u8]);
+
+impl fmt::Display for Hex<'_> {
+    ghost output = { λ h. Some (hex_text h.0.now) };
+
+    fn fmt<W: fmt::Write>(&self, f: &mut fmt::Formatter<W>) -> fmt::Result {
+        for &byte in self.0 {
+            write!(f, "{byte:02X}")?;
+        }
+        Ok(())
     }
-    Ok(())
 }
 
 // The digits of `bytes`, in upper case and without spaces.
+#[tactic(auto, using(crate::proofs::HexLaws::reads_printed))]
 pub fn to_hex(heap: Global, bytes: &[u8]) -> Result<String, AllocError>
     ensures value { IfOk result (λ s. string_bytes s ≡ hex_text bytes.now) }
     ensures back { ReadsPrinted }
 {
-    let mut out = String::new(heap);
-    push_hex(&mut out, bytes)?;
-    Ok(out)
+    Hex(bytes).to_string(heap)
 }

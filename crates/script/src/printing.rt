@@ -2,106 +2,93 @@
 ghost use Rattle.std.specs.Prelude.{◌≡◌, IfOk, Some, string_bytes};
 ghost use Rattle.script.specs.Back.{ReadsBack, ReadsAgain};
 ghost use Rattle.script.specs.Entries.{said};
-ghost use Rattle.script.specs.Printing.{padded, print_day, print_time, print_direction, print_tid, print_setup, print_show, print_bytes, print_said};
+ghost use Rattle.script.specs.Printing.{print_direction, print_setup, print_show, print_said};
 
 use crate::entries::{Entry, Setup, Showing};
-use crate::hex::to_hex;
+use crate::hex::Hex;
 use std::alloc::{AllocError, Global};
 use std::fmt;
 
-// A number in two digits, or more where it has more.
-#[derive(Drop)]
-struct Padded(u16);
+// A direction by its word, or by its byte where it has none.
+#[derive(Clone, Copy)]
+struct Direction(u8);
 
-impl fmt::Display for Padded {
-    ghost output = { λ p. Some (padded p.0) };
+impl fmt::Display for Direction {
+    ghost output = { λ d. Some (print_direction d.0) };
 
     fn fmt<W: fmt::Write>(&self, f: &mut fmt::Formatter<W>) -> fmt::Result {
-        let tens = self.0 / 10;
-        let ones = self.0 % 10;
-        write!(f, "{tens}{ones}")
+        match self.0 {
+            1 => f.write_str("in"),
+            2 => f.write_str("out"),
+            other => write!(f, "{}", Hex(&[other])),
+        }
     }
 }
 
-fn day_text(heap: Global, s: &Showing) -> Result<String, AllocError>
-    ensures { IfOk result (λ t. string_bytes t ≡ print_day s.now) }
-{
-    let century = Padded(s.year / 100);
-    let year = Padded(s.year % 100);
-    let month = Padded(u16::from(s.month));
-    let date = Padded(u16::from(s.date));
-    format!(in heap; "{century}{year}-{month}-{date}")
-}
+impl fmt::Display for Setup {
+    ghost output = { λ s. Some (print_setup s) };
 
-fn time_text(heap: Global, s: &Showing) -> Result<String, AllocError>
-    ensures { IfOk result (λ t. string_bytes t ≡ print_time s.now) }
-{
-    let hour = Padded(u16::from(s.hour));
-    let minute = Padded(u16::from(s.minute));
-    let second = Padded(u16::from(s.second));
-    format!(in heap; "{hour}:{minute}:{second}")
-}
-
-fn direction_text(heap: Global, direction: u8) -> Result<String, AllocError>
-    ensures { IfOk result (λ t. string_bytes t ≡ print_direction direction) }
-{
-    match direction {
-        1 => String::from_str(heap, "in"),
-        2 => String::from_str(heap, "out"),
-        _ => to_hex(heap, &[direction]),
+    fn fmt<W: fmt::Write>(&self, f: &mut fmt::Formatter<W>) -> fmt::Result {
+        write!(
+            f,
+            "{} {} {}",
+            Hex(&self.tid.to_be_bytes()),
+            Hex(&self.mac),
+            self.last_user
+        )
     }
 }
 
-fn tid_text(heap: Global, tid: u16) -> Result<String, AllocError>
-    ensures { IfOk result (λ t. string_bytes t ≡ print_tid tid) }
-{
-    to_hex(heap, &tid.to_be_bytes())
-}
+impl fmt::Display for Showing {
+    ghost output = { λ s. Some (print_show s) };
 
-fn setup_line(heap: Global, s: &Setup) -> Result<String, AllocError>
-    ensures { IfOk result (λ t. string_bytes t ≡ print_setup s.now) }
-{
-    let tid = tid_text(heap, s.tid)?;
-    let mac = to_hex(heap, &s.mac)?;
-    let last_user = s.last_user;
-    format!(in heap; "setup {tid} {mac} {last_user}")
-}
-
-fn show_line(heap: Global, s: &Showing) -> Result<String, AllocError>
-    ensures { IfOk result (λ t. string_bytes t ≡ print_show s.now) }
-{
-    let card = to_hex(heap, &s.card)?;
-    let door = s.door;
-    let day = day_text(heap, s)?;
-    let time = time_text(heap, s)?;
-    let direction = direction_text(heap, s.direction)?;
-    format!(in heap; "show {card} {door} {day} {time} {direction}")
-}
-
-// `word` and the bytes after it, or the word alone where there are none.
-fn bytes_line(heap: Global, word: &str, bytes: &[u8]) -> Result<String, AllocError>
-    ensures { IfOk result (λ t. string_bytes t ≡ print_bytes word.now bytes.now) }
-{
-    if bytes.is_empty() {
-        return String::from_str(heap, word);
+    fn fmt<W: fmt::Write>(&self, f: &mut fmt::Formatter<W>) -> fmt::Result {
+        let Showing {
+            card,
+            door,
+            year,
+            month,
+            date,
+            hour,
+            minute,
+            second,
+            direction,
+        } = *self;
+        write!(
+            f,
+            "{} {door} {year:04}-{month:02}-{date:02} {hour:02}:{minute:02}:{second:02} {}",
+            Hex(&card),
+            Direction(direction)
+        )
     }
-    let digits = to_hex(heap, bytes)?;
-    format!(in heap; "{word} {digits}")
+}
+
+impl fmt::Display for Entry {
+    ghost output = { λ e. Some (print_said (said e)) };
+
+    fn fmt<W: fmt::Write>(&self, f: &mut fmt::Formatter<W>) -> fmt::Result {
+        f.write_str(self.kind().word())?;
+        match self {
+            Entry::Setup(setup) => write!(f, " {setup}"),
+            Entry::Send(bytes) | Entry::Withdraw(bytes) | Entry::Reply(bytes) => {
+                if bytes.is_empty() {
+                    Ok(())
+                } else {
+                    write!(f, " {}", Hex(bytes))
+                }
+            }
+            Entry::Show(showing) => write!(f, " {showing}"),
+            Entry::Event(code) | Entry::Refused(code) => write!(f, " {}", Hex(&[*code])),
+        }
+    }
 }
 
 // The line of an entry in its normal form, without a newline.
+#[tactic(auto, using(crate::proofs::BackLaws::reads_back, crate::proofs::FitLaws::reads_again))]
 pub fn line_of(heap: Global, entry: &Entry) -> Result<String, AllocError>
     ensures value { IfOk result (λ t. string_bytes t ≡ print_said (said entry.now)) }
     ensures back { ReadsBack }
     ensures again { ReadsAgain }
 {
-    match entry {
-        Entry::Setup(s) => setup_line(heap, s),
-        Entry::Send(bytes) => bytes_line(heap, "send", bytes),
-        Entry::Withdraw(bytes) => bytes_line(heap, "withdraw", bytes),
-        Entry::Reply(bytes) => bytes_line(heap, "reply", bytes),
-        Entry::Show(s) => show_line(heap, s),
-        Entry::Event(code) => bytes_line(heap, "event", &[*code]),
-        Entry::Refused(code) => bytes_line(heap, "refused", &[*code]),
-    }
+    entry.to_string(heap)
 }

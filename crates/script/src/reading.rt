@@ -1,21 +1,25 @@
 // Reads a line of the sheet: its fields from left to right, so that the first fault decides.
-ghost use Rattle.std.specs.Prelude.{◌≡◌, ◌⊎◌, Ok, Err, MatchResult};
+ghost use Rattle.std.specs.Prelude.{◌≡◌};
 ghost use Rattle.std.specs.Option.{option_map};
 ghost use Rattle.script.specs.declared.entries.Fault.TheVariants.{Memory};
 ghost use Rattle.script.specs.Entries.{said};
 ghost use Rattle.script.specs.Fields.{seen};
-ghost use Rattle.script.specs.Reading.{blank, one_byte, read_day, read_direction, read_setup, read_show, read_code, read_kind, read_entry, read_line, without_return};
+ghost use Rattle.script.specs.Outcome.{AnswersAs};
+ghost use Rattle.script.specs.Reading.{finished, one_byte, read_day, read_direction, read_setup, read_show, read_code, read_kind, read_entry, read_line, without_return};
 
 use crate::entries::{Entry, Fault, Kind, Setup, Showing};
 use crate::fields::{after_word, hex_word, number_word, skip_spaces, three_pairs, two_digits};
 use crate::hex::from_hex;
 use std::alloc::Global;
 
-// Whether nothing but spaces is left.
-fn is_blank(text: &[u8]) -> bool
-    ensures { result ≡ blank text.now }
+// Nothing but spaces is left.
+fn nothing_after(text: &[u8]) -> Result<(), Fault>
+    ensures { result ≡ finished tt text.now }
 {
-    skip_spaces(text).is_empty()
+    skip_spaces(text)
+        .is_empty()
+        .then_some(())
+        .ok_or(Fault::After)
 }
 
 fn read_byte(text: &[u8]) -> Option<(u8, &[u8])>
@@ -39,10 +43,10 @@ fn read_day(text: &[u8]) -> Option<((u16, u8, u8), &[u8])>
 fn read_direction(text: &[u8]) -> Option<(u8, &[u8])>
     ensures { seen result ≡ read_direction text.now }
 {
-    if let Some(rest) = after_word(text, b"in") {
+    if let Some(rest) = after_word(text, "in") {
         return Some((1, rest));
     }
-    if let Some(rest) = after_word(text, b"out") {
+    if let Some(rest) = after_word(text, "out") {
         return Some((2, rest));
     }
     read_byte(text)
@@ -54,12 +58,9 @@ fn read_setup(text: &[u8]) -> Result<Setup, Fault>
     let (tid, text) = hex_word::<2>(text).ok_or(Fault::Tid)?;
     let (mac, text) = hex_word::<6>(text).ok_or(Fault::Mac)?;
     let (last_user, text) = number_word(text, u32::MAX).ok_or(Fault::LastUser)?;
-    if !is_blank(text) {
-        return Err(Fault::After);
-    }
-    let tid = u16::from_be_bytes(tid);
+    nothing_after(text)?;
     Ok(Setup {
-        tid,
+        tid: u16::from_be_bytes(tid),
         mac,
         last_user,
     })
@@ -69,37 +70,18 @@ fn read_code(text: &[u8]) -> Result<u8, Fault>
     ensures { result ≡ read_code text.now }
 {
     let (code, text) = read_byte(text).ok_or(Fault::Code)?;
-    if is_blank(text) {
-        Ok(code)
-    } else {
-        Err(Fault::After)
-    }
+    nothing_after(text)?;
+    Ok(code)
 }
 
 // The first word, and the text after it.
 fn read_kind(text: &[u8]) -> Option<(Kind, &[u8])>
     ensures { seen result ≡ read_kind text.now }
 {
-    if let Some(rest) = after_word(text, b"setup") {
-        return Some((Kind::Setup, rest));
-    }
-    if let Some(rest) = after_word(text, b"send") {
-        return Some((Kind::Send, rest));
-    }
-    if let Some(rest) = after_word(text, b"withdraw") {
-        return Some((Kind::Withdraw, rest));
-    }
-    if let Some(rest) = after_word(text, b"reply") {
-        return Some((Kind::Reply, rest));
-    }
-    if let Some(rest) = after_word(text, b"show") {
-        return Some((Kind::Show, rest));
-    }
-    if let Some(rest) = after_word(text, b"event") {
-        return Some((Kind::Event, rest));
-    }
-    if let Some(rest) = after_word(text, b"refused") {
-        return Some((Kind::Refused, rest));
+    for kind in Kind::ALL {
+        if let Some(rest) = after_word(text, kind.word()) {
+            return Some((kind, rest));
+        }
     }
     None
 }
@@ -112,13 +94,10 @@ fn read_show(text: &[u8]) -> Result<Showing, Fault>
     let ((year, month, date), text) = read_day(skip_spaces(text)).ok_or(Fault::Day)?;
     let ((hour, minute, second), text) = three_pairs(skip_spaces(text), b':').ok_or(Fault::Time)?;
     let (direction, text) = read_direction(skip_spaces(text)).ok_or(Fault::Direction)?;
-    if !is_blank(text) {
-        return Err(Fault::After);
-    }
-    let door = door as u8;
+    nothing_after(text)?;
     Ok(Showing {
         card,
-        door,
+        door: door as u8,
         year,
         month,
         date,
@@ -131,29 +110,29 @@ fn read_show(text: &[u8]) -> Result<Showing, Fault>
 
 // What follows the first word.
 fn read_entry(heap: Global, kind: Kind, text: &[u8]) -> Result<Entry, Fault>
-    ensures { MatchResult result (λ x. read_entry kind text.now ≡ Ok (said x)) (λ e. (e ≡ Memory) ⊎ (read_entry kind text.now ≡ Err e)) }
+    ensures { AnswersAs said Memory (read_entry kind text.now) result }
 {
-    match kind {
-        Kind::Setup => Ok(Entry::Setup(read_setup(text)?)),
-        Kind::Send => Ok(Entry::Send(from_hex(heap, text)?)),
-        Kind::Withdraw => Ok(Entry::Withdraw(from_hex(heap, text)?)),
-        Kind::Reply => Ok(Entry::Reply(from_hex(heap, text)?)),
-        Kind::Show => Ok(Entry::Show(read_show(text)?)),
-        Kind::Event => Ok(Entry::Event(read_code(text)?)),
-        Kind::Refused => Ok(Entry::Refused(read_code(text)?)),
-    }
+    Ok(match kind {
+        Kind::Setup => Entry::Setup(read_setup(text)?),
+        Kind::Send => Entry::Send(from_hex(heap, text)?),
+        Kind::Withdraw => Entry::Withdraw(from_hex(heap, text)?),
+        Kind::Reply => Entry::Reply(from_hex(heap, text)?),
+        Kind::Show => Entry::Show(read_show(text)?),
+        Kind::Event => Entry::Event(read_code(text)?),
+        Kind::Refused => Entry::Refused(read_code(text)?),
+    })
 }
 
 // The entry of a line, or `None` where the line is empty or a remark.
 pub fn read_line(heap: Global, line: &[u8]) -> Result<Option<Entry>, Fault>
-    ensures { MatchResult result (λ x. read_line line.now ≡ Ok (option_map said x)) (λ e. (e ≡ Memory) ⊎ (read_line line.now ≡ Err e)) }
+    ensures { AnswersAs (option_map said) Memory (read_line line.now) result }
 {
     let text = skip_spaces(line);
-    if text.is_empty() || text[0] == b'#' {
+    if matches!(text, [] | [b'#', ..]) {
         return Ok(None);
     }
     let (kind, rest) = read_kind(text).ok_or(Fault::Word)?;
-    Ok(Some(read_entry(heap, kind, rest)?))
+    read_entry(heap, kind, rest).map(Some)
 }
 
 // The text of a line that may end in a carriage return.

@@ -1,69 +1,53 @@
 // What is told of the records that a frame puts.
-ghost use Rattle.std.specs.Prelude.{◌≡◌, length};
-
 use orders::Command;
-use records::limits::USER_SIZE;
+use records::limits::REST_SIZE;
 use records::{Group, Holiday, Record, TimeSet, User, Zone};
 use std::io;
 
-fn tell<R: Record>(rt: &HostRuntime, name: &str, last_user: u32, bytes: &[u8]) -> io::Result<()>
-where
-    R: Drop,
-{
-    let answer = match R::from_bytes(last_user, bytes) {
-        Ok(_) => "in range",
-        Err(_) => "out of range",
-    };
+fn tell(rt: &HostRuntime, name: &str, in_range: bool) -> io::Result<()> {
+    let answer = if in_range { "in range" } else { "out of range" };
     println!(rt; "# {name}: its fields are {answer}")
 }
 
 // The records of a body that is a count and as many records.
-fn tell_counted<R: Record>(
+fn tell_counted<R: Record + Drop>(
     rt: &HostRuntime,
     name: &str,
     last_user: u32,
     body: &[u8],
-) -> io::Result<()>
-where
-    R: Drop,
-{
+) -> io::Result<()> {
     let [count, records @ ..] = body else {
         return Ok(());
     };
     let size = R::size();
-    if size == 0 || records.len() != size.saturating_mul(*count as usize) {
+    if records.len() != size.saturating_mul(usize::from(*count)) {
         return Ok(());
     }
     for bytes in records.chunks(size) {
-        tell::<R>(rt, name, last_user, bytes)?;
+        tell(rt, name, R::from_bytes(last_user, bytes).is_ok())?;
     }
     Ok(())
 }
 
-// A user's bytes are those of the body but for the byte OVERWRITE behind the number.
-fn leave_out_overwrite(body: &[u8], user: &mut [u8])
-    requires { (length body.now ≡ 85) × (length user.old ≡ 84) }
-{
-    user[0..4].copy_from_slice(&body[0..4]);
-    user[4..USER_SIZE].copy_from_slice(&body[5..USER_SIZE + 1]);
-}
-
+// The user of a body that is a number, the byte OVERWRITE and the rest of the user.
 fn tell_user(rt: &HostRuntime, last_user: u32, body: &[u8]) -> io::Result<()> {
-    if body.len() != USER_SIZE + 1 {
+    let Some((number, [_overwrite, rest @ ..])) = body.split_first_chunk() else {
+        return Ok(());
+    };
+    if rest.len() != REST_SIZE {
         return Ok(());
     }
-    let mut bytes = [0u8; USER_SIZE];
-    leave_out_overwrite(body, &mut bytes);
-    tell::<User>(rt, "user", last_user, &bytes)
+    let user = User::with_number(last_user, u32::from_be_bytes(*number), rest);
+    tell(rt, "user", user.is_ok())
 }
 
-// Tells of each record in a frame of the right length whether its fields are in range.
+// Tells of each record in a frame of the right length whether its fields are in range. Eight bytes stand before a
+// frame's command, and two behind its body.
 pub(crate) fn tell_records(rt: &HostRuntime, last_user: u32, frame: &[u8]) -> io::Result<()> {
-    if frame.len() < 11 {
+    let [_, _, _, _, _, _, _, _, command, body @ .., _, _] = frame else {
         return Ok(());
-    }
-    let body = &frame[9..frame.len() - 2];
-    match Command::from_byte(frame[8]) {
+    };
+    match Command::from_byte(*command) {
         Some(Command::RegisterUser) => tell_user(rt, last_user, body),
         Some(Command::PutTimeSets) => tell_counted::<TimeSet>(rt, "time set", last_user, body),
         Some(Command::PutZones) => tell_counted::<Zone>(rt, "zone", last_user, body),

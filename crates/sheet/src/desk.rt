@@ -1,12 +1,12 @@
 // The controller's line at the desk where a sheet is replayed, and the tally of what was carried out.
-ghost use Rattle.std.specs.Prelude.{◌<◌, ◌≤◌, length};
+ghost use Rattle.std.specs.Prelude.{◌<◌, length, IfOk};
 
 use crate::contents::tell_records;
 use crate::order::Note;
 use crate::words::{command_words, refusal_words};
 use line::{Fed, FrameBuffer, Line, Listening};
 use orders::ask;
-use script::{Entry, line_of};
+use script::Entry;
 use std::alloc::{AllocError, Global};
 use std::{fmt, io};
 
@@ -15,7 +15,7 @@ const TID: u16 = 0x0001;
 
 const LAST_USER: u32 = 1000;
 
-#[derive(Clone, Copy)]
+#[derive(Clone, Copy, Default)]
 pub struct Tally {
     sent: u64,
     withdrawn: u64,
@@ -26,11 +26,13 @@ pub struct Tally {
 
 impl fmt::Display for Tally {
     fn fmt<W: fmt::Write>(&self, f: &mut fmt::Formatter<W>) -> fmt::Result {
-        let sent = self.sent;
-        let withdrawn = self.withdrawn;
-        let right = self.right;
-        let wrong = self.wrong;
-        let left_out = self.left_out;
+        let Tally {
+            sent,
+            withdrawn,
+            right,
+            wrong,
+            left_out,
+        } = self;
         write!(
             f,
             "tally: {sent} send, {withdrawn} withdraw, {right} orders right, {wrong} orders wrong, {left_out} lines not carried out"
@@ -49,17 +51,10 @@ pub struct Desk {
 
 impl Desk {
     pub(crate) fn new(heap: Global) -> Result<Desk, AllocError> {
-        let tally = Tally {
-            sent: 0,
-            withdrawn: 0,
-            right: 0,
-            wrong: 0,
-            left_out: 0,
-        };
         Ok(Desk {
             line: Line::new(TID, FrameBuffer::new(heap)?),
             last_user: LAST_USER,
-            tally,
+            tally: Tally::default(),
             began: false,
         })
     }
@@ -75,9 +70,81 @@ impl Desk {
 
     // A setup line stands before every other entry.
     pub(crate) fn admits(&self, entry: &Entry) -> bool {
+        !self.began || !matches!(entry, Entry::Setup(_))
+    }
+
+    // Feeds bytes up to the next order that becomes ready, tells of it and withdraws it. What is left are the bytes
+    // behind it.
+    fn feed_next<'a>(self, rt: &HostRuntime, bytes: &'a [u8]) -> io::Result<(Desk, &'a [u8])>
+        ensures { IfOk result (λ p. 0 < length bytes.now → length p.1.now < length bytes.now) }
+    {
+        let Desk {
+            line,
+            last_user,
+            mut tally,
+            began,
+        } = self;
+        let (line, taken) = match line.feed(bytes) {
+            Fed::Waiting(line, taken) => (line, taken),
+            Fed::Ready(line, pending, taken) => {
+                let told = tell_order(rt, last_user, line.frame());
+                let line = line.withdraw(pending);
+                if told? {
+                    tally.right = tally.right.saturating_add(1);
+                } else {
+                    tally.wrong = tally.wrong.saturating_add(1);
+                }
+                (line, taken)
+            }
+        };
+        let desk = Desk {
+            line,
+            last_user,
+            tally,
+            began,
+        };
+        Ok((desk, &bytes[taken..]))
+    }
+
+    // Feeds a piece to its end and counts the orders that become ready.
+    fn feed(self, rt: &HostRuntime, piece: &[u8]) -> io::Result<Desk> {
+        let mut desk = self;
+        let mut rest = piece;
+        while !rest.is_empty() {
+            (desk, rest) = desk.feed_next(rt, rest)?;
+        }
+        Ok(desk)
+    }
+
+    // Carries out an entry: its line in normal form, and below it a line for each order that became ready.
+    pub(crate) fn carry_out(mut self, rt: &HostRuntime, entry: &Entry) -> io::Result<Desk> {
+        self.began = true;
         match entry {
-            Entry::Setup(_) => !self.began,
-            _ => true,
+            Entry::Setup(setup) => {
+                rt.println(entry)?;
+                self.line = Line::new(setup.tid, FrameBuffer::new(rt.alloc())?);
+                self.last_user = setup.last_user;
+                Ok(self)
+            }
+            Entry::Send(bytes) => {
+                rt.println(entry)?;
+                self.tally.sent = self.tally.sent.saturating_add(1);
+                self.feed(rt, bytes)
+            }
+            Entry::Withdraw(bytes) => {
+                rt.println(entry)?;
+                self.tally.withdrawn = self.tally.withdrawn.saturating_add(1);
+                self.feed(rt, bytes)
+            }
+            Entry::Show(_) => {
+                rt.println(entry)?;
+                self.tally.left_out = self.tally.left_out.saturating_add(1);
+                Ok(self)
+            }
+            Entry::Reply(_) | Entry::Event(_) | Entry::Refused(_) => {
+                self.tally.left_out = self.tally.left_out.saturating_add(1);
+                Ok(self)
+            }
         }
     }
 }
@@ -101,90 +168,4 @@ fn tell_order(rt: &HostRuntime, last_user: u32, frame: &[u8]) -> io::Result<bool
     }
     tell_records(rt, last_user, frame)?;
     Ok(note.is_right())
-}
-
-// Feeds bytes up to the next order that becomes ready, tells of it and withdraws it.
-fn next_order(
-    rt: &HostRuntime,
-    last_user: u32,
-    line: Line<Listening>,
-    bytes: &[u8],
-) -> (Line<Listening>, Option<io::Result<bool>>, usize)
-    ensures within { result.2 ≤ length bytes.now }
-    ensures goes_on { 0 < length bytes.now → 0 < result.2 }
-{
-    match line.feed(bytes) {
-        Fed::Waiting(line, taken) => (line, None, taken),
-        Fed::Ready(line, pending, taken) => {
-            let told = tell_order(rt, last_user, line.frame());
-            (line.withdraw(pending), Some(told), taken)
-        }
-    }
-}
-
-// Feeds a piece to its end and counts the orders that become ready.
-fn feed_all(
-    rt: &HostRuntime,
-    last_user: u32,
-    line: Line<Listening>,
-    tally: &mut Tally,
-    bytes: &[u8],
-) -> io::Result<Line<Listening>> {
-    let mut line = line;
-    let mut at = 0;
-    while at < bytes.len() {
-        let (next, told, taken) = next_order(rt, last_user, line, &bytes[at..bytes.len()]);
-        line = next;
-        at += taken;
-        if let Some(told) = told {
-            if told? {
-                tally.right = tally.right.saturating_add(1);
-            } else {
-                tally.wrong = tally.wrong.saturating_add(1);
-            }
-        }
-    }
-    Ok(line)
-}
-
-// Carries out an entry: its line in normal form, and below it a line for each order that became ready.
-pub(crate) fn carry_out(rt: &HostRuntime, desk: Desk, entry: &Entry) -> io::Result<Desk> {
-    let heap = rt.alloc();
-    let Desk {
-        mut line,
-        mut last_user,
-        mut tally,
-        began: _,
-    } = desk;
-    match entry {
-        Entry::Setup(setup) => {
-            rt.println(line_of(heap, entry)?)?;
-            line = Line::new(setup.tid, FrameBuffer::new(heap)?);
-            last_user = setup.last_user;
-        }
-        Entry::Send(bytes) => {
-            rt.println(line_of(heap, entry)?)?;
-            tally.sent = tally.sent.saturating_add(1);
-            line = feed_all(rt, last_user, line, &mut tally, bytes)?;
-        }
-        Entry::Withdraw(bytes) => {
-            rt.println(line_of(heap, entry)?)?;
-            tally.withdrawn = tally.withdrawn.saturating_add(1);
-            line = feed_all(rt, last_user, line, &mut tally, bytes)?;
-        }
-        Entry::Show(_) => {
-            rt.println(line_of(heap, entry)?)?;
-            tally.left_out = tally.left_out.saturating_add(1);
-        }
-        Entry::Reply(_) | Entry::Event(_) | Entry::Refused(_) => {
-            tally.left_out = tally.left_out.saturating_add(1);
-        }
-    }
-    let began = true;
-    Ok(Desk {
-        line,
-        last_user,
-        tally,
-        began,
-    })
 }

@@ -9,11 +9,17 @@ mod words;
 use anyhow::anyhow;
 use desk::Desk;
 use script::{read_line, without_return};
+use std::fmt;
 use std::io::{BufRead, BufReader};
 
 // Says what is wrong with a line; the sheet ends there.
-fn refuse(rt: &HostRuntime, desk: Desk, number: u64, what: &str) -> anyhow::Result<Desk> {
-    finish(rt, &desk)?;
+fn refuse(
+    rt: &HostRuntime,
+    desk: &Desk,
+    number: u64,
+    what: impl fmt::Display + Drop,
+) -> anyhow::Result<Desk> {
+    finish(rt, desk)?;
     eprintln!(rt; "line {number}: {what}")?;
     Err(anyhow!("the sheet has a line that is not of its form"))
 }
@@ -29,33 +35,24 @@ fn finish(rt: &HostRuntime, desk: &Desk) -> anyhow::Result<()> {
 }
 
 fn one_line(rt: &HostRuntime, desk: Desk, number: u64, line: &[u8]) -> anyhow::Result<Desk> {
-    let heap = rt.alloc();
-    match read_line(heap, without_return(line)) {
+    match read_line(rt.alloc(), without_return(line)) {
         Ok(None) => Ok(desk),
-        Ok(Some(entry)) => {
-            if !desk.admits(&entry) {
-                return refuse(
-                    rt,
-                    desk,
-                    number,
-                    "a setup line stands before every other entry",
-                );
-            }
-            Ok(desk::carry_out(rt, desk, &entry)?)
-        }
-        Err(fault) => {
-            let what = fault.to_string(heap)?;
-            refuse(rt, desk, number, what.as_str())
-        }
+        Ok(Some(entry)) if desk.admits(&entry) => Ok(desk.carry_out(rt, &entry)?),
+        Ok(Some(_)) => refuse(
+            rt,
+            &desk,
+            number,
+            "a setup line stands before every other entry",
+        ),
+        Err(fault) => refuse(rt, &desk, number, fault),
     }
 }
 
 fn main(rt: HostRuntime) -> anyhow::Result<()> {
     let heap = rt.alloc();
     let mut desk = Desk::new(heap)?;
-    let mut number: u64 = 0;
-    for line in BufReader::new(heap, rt.stdin())?.split(heap, b'\n') {
-        number = number.saturating_add(1);
+    let lines = BufReader::new(heap, rt.stdin())?.split(heap, b'\n');
+    for (number, line) in (1..=u64::MAX).zip(lines) {
         desk = one_line(&rt, desk, number, &line?)?;
     }
     finish(&rt, &desk)

@@ -38,10 +38,14 @@ fn word(right: bool) -> &'static str {
 
 impl fmt::Display for Note {
     fn fmt<W: fmt::Write>(&self, f: &mut fmt::Formatter<W>) -> fmt::Result {
-        let command = self.command;
-        let length = self.length;
-        let last = word(self.ends_right);
-        let sum = word(self.sums_right);
+        let Note {
+            command,
+            length,
+            ends_right,
+            sums_right,
+        } = *self;
+        let last = word(ends_right);
+        let sum = word(sums_right);
         write!(
             f,
             "order {command:02X}, {length} bytes, last byte {last}, checksum {sum}"

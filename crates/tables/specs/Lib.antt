@@ -7,6 +7,6 @@ pub mod Packings
 pub mod Counts
 pub mod Edited
 pub mod Finds
-pub mod Moves
 pub mod Searches
 pub mod Slotted
+pub mod Walks

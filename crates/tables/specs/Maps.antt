@@ -5,6 +5,12 @@ use Rattle.tables.specs.declared.entry.Entry.{Entry}
 abbrev pub Map : Type 0 → Type 0
 Map B = ℕ → Option (Entry B)
 
+-- a table by what it means: its first and its last number, and the record under each number
+pub record View (B : Type 0) : Type 0 where
+  pub low : ℕ
+  pub high : ℕ
+  pub at : Map B
+
 abbrev pub inside : ℕ → ℕ → ℕ → Bool
 inside low high n = nat_le low n && nat_le n high
 
@@ -14,8 +20,11 @@ start None = 0
 start (Some a) = a + 1
 
 module _ {B : Type 0} where
-  abbrev pub put_answer : ℕ → ℕ → Entry B → Result (Unit {0}) (Entry B)
-  put_answer low high e = cond (inside low high e.number) (Ok tt) (Err e)
+  abbrev pub bare : ℕ → ℕ → View B
+  bare low high = record { low = low; high = high; at = λ n. None }
+
+  abbrev pub put_answer : View B → Entry B → Result (Unit {0}) (Entry B)
+  put_answer v e = cond (inside v.low v.high e.number) (Ok tt) (Err e)
 
   abbrev pub putting : ℕ → ℕ → Map B → Entry B → Map B
   putting low high f e n = cond (inside low high e.number && n == e.number) (Some e) (f n)
@@ -30,6 +39,9 @@ module _ {B : Type 0} where
   unfoldable pub many : Map B → ℕ → ℕ
   many f zero = 0
   many f (suc n) = many f n + one (f n)
+
+  abbrev pub count_of : View B → ℕ
+  count_of v = many v.at (suc v.high)
 
   -- k is the smallest number from a on that has a record
   pub record Least (f : Map B) (a k : ℕ) : Type 0 where

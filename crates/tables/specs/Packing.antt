@@ -1,7 +1,8 @@
 -- Records packed in ascending numbers.
 use Rattle.std.specs.Prelude.{ℕ, ◌<◌, ◌≤◌, cond, List, [], ◌∷◌, length, Some, None, ◌==◌, slice_index_or}
 use Rattle.tables.specs.declared.entry.Entry.{Entry}
-use Rattle.tables.specs.Maps.{Map}
+use Rattle.tables.specs.declared.range.Range.{Range}
+use Rattle.tables.specs.Maps.{Map, View}
 use Rattle.tables.specs.Order.{Climbs}
 
 module _ {B : Type 0} where
@@ -12,6 +13,9 @@ module _ {B : Type 0} where
   abbrev pub find : List (Entry B) → Map B
   find [] n = None
   find (e ∷ es) n = cond (e.number == n) (Some e) (find es n)
+
+  abbrev pub packed_view : Range → List (Entry B) → View B
+  packed_view r es = record { low = r.first; high = r.last; at = find es }
 
   abbrev pub Ascends : List (Entry B) → Type 0
   Ascends xs = Climbs number_of xs

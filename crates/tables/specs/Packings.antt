@@ -13,13 +13,16 @@ use Rattle.tables.specs.Packing.{find, number_of, Ascends, Within, Split}
 use Rattle.tables.specs.Counts.{many_change, many_empty}
 use Rattle.tables.specs.Edited.{put_from, remove_from}
 use Rattle.tables.specs.Finds.{find_none, find_first, find_inserted_other, find_removed_other, find_set_other}
-use Rattle.tables.specs.Moves.{at_place}
 use Rattle.tables.specs.Searches.{climbs_far}
 
 pub chosen : {X : Type 0} (b : Bool) (x y z : X) → z ≡ cond b x y → b ≡ true → z ≡ x
 chosen b x y z is holds = is ∙ cond-true b x y holds
 
 module _ {R : Type 0} where
+  -- the same place
+  pub at_place : (xs : List R) (d : R) (i j : ℕ) → i ≡ j → slice_index_or xs i d ≡ slice_index_or xs j d
+  at_place xs d i j e = ap (λ (k : ℕ). get_or xs k d) e
+
   -- a push and a move down are an insertion
   pub inserted_from_sunk : (xs ys : List R) (x : R) (at : ℕ) → at ≤ length xs → length ys ≡ length xs + 1 → Sunk (xs ++ x ∷ []) at ys → ys ≡ insert xs at x
   inserted_from_sunk xs ys x at le long sunk =

@@ -1,27 +1,30 @@
--- What a list of changes makes of a map, and when two tables are the same to a user.
-use Rattle.std.specs.Prelude.{◌≡◌, ℕ, suc, List, [], ◌∷◌, None, Option}
+-- What a list of changes makes of a table, and when two tables are the same to a user.
+use Rattle.std.specs.Prelude.{◌≡◌, ℕ, List, [], ◌∷◌, Option}
 use Rattle.tables.specs.declared.edit.Edit.{Edit}
 use Rattle.tables.specs.declared.edit.Edit.TheVariants.{Put, Remove, Clear}
-use Rattle.tables.specs.Maps.{Map, putting, removing, many, start, Next}
+use Rattle.tables.specs.Maps.{View, bare, putting, removing, count_of, start, Next}
 
 module _ {B : Type 0} where
-  abbrev pub edited : ℕ → ℕ → Map B → Edit B → Map B
-  edited low high f (Put e) = putting low high f e
-  edited low high f (Remove k) = removing f k
-  edited low high f Clear = λ n. None
+  abbrev pub edited : View B → Edit B → View B
+  edited v (Put e) = record { low = v.low; high = v.high; at = putting v.low v.high v.at e }
+  edited v (Remove k) = record { low = v.low; high = v.high; at = removing v.at k }
+  edited v Clear = bare v.low v.high
 
-  abbrev pub replay : ℕ → ℕ → Map B → List (Edit B) → Map B
-  replay low high f [] = f
-  replay low high f (e ∷ es) = replay low high (edited low high f e) es
+  abbrev pub replay : View B → List (Edit B) → View B
+  replay v [] = v
+  replay v (e ∷ es) = replay (edited v e) es
+
+  abbrev pub SameRange : View B → View B → Type 0
+  SameRange v w = (v.low ≡ w.low) × (v.high ≡ w.high)
 
   -- the same range and the same map
-  pub record Agree (low low' high high' : ℕ) (f g : Map B) : Type 0 where
-    pub low_same : low ≡ low'
-    pub high_same : high ≡ high'
-    pub map_same : (n : ℕ) → f n ≡ g n
+  pub record Agree (v w : View B) : Type 0 where
+    pub low_same : v.low ≡ w.low
+    pub high_same : v.high ≡ w.high
+    pub map_same : (n : ℕ) → v.at n ≡ w.at n
 
   -- and the same count, and the same answer of `next` at every start
-  pub record Alike (low low' high high' : ℕ) (f g : Map B) : Type 0 where
-    pub agree : Agree low low' high high' f g
-    pub count_same : many f (suc high) ≡ many g (suc high')
-    pub walk_same : (above r s : Option ℕ) → Next f (start above) r → Next g (start above) s → r ≡ s
+  pub record Alike (v w : View B) : Type 0 where
+    pub agree : Agree v w
+    pub count_same : count_of v ≡ count_of w
+    pub walk_same : (above r s : Option ℕ) → Next v.at (start above) r → Next w.at (start above) s → r ≡ s

@@ -1,16 +1,16 @@
 -- The map of a list of places.
-use Rattle.std.specs.Prelude.{◌≡◌, ℕ, zero, suc, ◌+◌, ◌-◌, ◌<◌, ◌≤◌, true, false, List, [], ◌∷◌, ◌++◌, length, get_or, is_some, Some, None, Option, Vec, ◌≢◌, slice_index_or, slice_set, refl}
+use Rattle.std.specs.Prelude.{◌≡◌, ℕ, zero, suc, ◌+◌, ◌-◌, ◌<◌, ◌≤◌, true, List, [], ◌∷◌, ◌++◌, length, drop, take, get_or, is_some, Some, None, Option, Vec, MatchOption, ◌≢◌, slice_index_or, slice_set, refl}
+use Rattle.std.proofs.Math.Seq.{take-nil}
 use Rattle.std.proofs.Common.{sym, ap, ◌∙◌, ⊎_elim, arith}
+use Rattle.std.specs.List.{AllWithin, AppendsResults, FoldsTo, HoldsAt, slice_range}
 use Rattle.std.specs.Option.{option_map}
 use Rattle.std.specs.Vec.{with_items}
 use Rattle.std.proofs.lemmas.Bool.{both_ways, cases_eq, cases_lt, lt-ltb, le-ltb, cond-true, cond-false}
-use Rattle.std.proofs.lemmas.List.{get_or-set_same, get_or-set_other, get_or_past, with_items_is}
-use Rattle.std.proofs.lemmas.Bool.Decides.{nat_tests}
+use Rattle.std.proofs.lemmas.List.{get_or-take, get_or-drop, get_or-set_same, get_or-set_other, get_or_past, with_items_is}
 use Rattle.tables.specs.declared.entry.Entry.{Entry}
-use Rattle.tables.specs.Maps.{one, many, inside, putting, removing, Next}
+use Rattle.tables.specs.Maps.{one, many, Next}
 use Rattle.tables.specs.Placed.{slot, Named}
 use Rattle.tables.specs.Counts.{many_change}
-use Rattle.tables.specs.Edited.{put_from, remove_from}
 
 module _ {B : Type 0} (low : ℕ) (xs : List (Option (Entry B))) where
   pub slot_below : (n : ℕ) → n < low → slot low xs n ≡ None
@@ -42,33 +42,6 @@ module _ {B : Type 0} (low : ℕ) (xs : List (Option (Entry B))) where
       let number = named (n - low) e (sym (slot_from n within.0) ∙ is) in
       omega arith
 
-  pub slot_outside : (high n : ℕ) → length xs ≡ suc high - low → inside low high n ≡ false → slot low xs n ≡ None
-  slot_outside high n sized out =
-      ⊎_elim
-      (λ (h : n < low). slot_below n h)
-      (λ (h : low ≤ n). slot_past n (let above : high < n = grind (arith, nat_tests) in omega arith))
-      (cases_lt n low)
-
-  pub slot_remove_outside : (high k : ℕ) → length xs ≡ suc high - low → inside low high k ≡ false → (n : ℕ) → slot low xs n ≡ removing (slot low xs) k n
-  slot_remove_outside high k sized out = remove_from (slot low xs) k (slot low xs) (slot_outside high k sized out) (λ m other. refl)
-
-  -- a walk over the places is a walk over the numbers
-  pub next_slot : (a : ℕ) (r : Option ℕ) → Next (λ k. get_or xs k None) (a - low) r → Next (slot low xs) a (option_map (λ k. low + k) r)
-  next_slot a None none = λ n from.
-      ⊎_elim
-      (λ (h : n < low). slot_below n h)
-      (λ (h : low ≤ n). slot_from n h ∙ none (n - low) (omega arith))
-      (cases_lt n low)
-  next_slot a (Some k) least = record {
-    from = omega (arith, least.from);
-    there = let e : low + k - low ≡ k = omega arith in ap is_some (slot_from (low + k) (omega arith) ∙ ap (λ (j : ℕ). get_or xs j None) e) ∙ least.there;
-    none_before = λ n from before.
-        ⊎_elim
-        (λ (h : n < low). slot_below n h)
-        (λ (h : low ≤ n). slot_from n h ∙ least.none_before (n - low) (omega arith) (omega arith))
-        (cases_lt n low);
-  }
-
 module _ {B : Type 0} (low : ℕ) (xs : List (Option (Entry B))) (at : ℕ) (place : Option (Entry B)) where
   pub slot_set_same : at < length xs → slot low (slice_set xs at place) (low + at) ≡ place
   slot_set_same h =
@@ -82,18 +55,6 @@ module _ {B : Type 0} (low : ℕ) (xs : List (Option (Entry B))) (at : ℕ) (pla
       (λ (h : low ≤ n).
       slot_from low (slice_set xs at place) n h ∙ (get_or-set_other xs at (n - low) place None (λ q. ne (omega arith)) ∙ sym (slot_from low xs n h)))
       (cases_lt n low)
-
-  pub slot_put : (high : ℕ) (e : Entry B) → place ≡ Some e → at < length xs → inside low high e.number ≡ true → e.number ≡ low + at → (n : ℕ) → slot low (slice_set xs at place) n ≡ putting low high (slot low xs) e n
-  slot_put high e is less within number =
-      put_from low high (slot low xs) e (slot low (slice_set xs at place)) within
-      (ap (slot low (slice_set xs at place)) number ∙ (slot_set_same less ∙ is))
-      (λ m other. slot_set_other m (λ q. other (q ∙ sym number)))
-
-  pub slot_remove : (k : ℕ) → place ≡ None → at < length xs → k ≡ low + at → (n : ℕ) → slot low (slice_set xs at place) n ≡ removing (slot low xs) k n
-  slot_remove k is less number =
-      remove_from (slot low xs) k (slot low (slice_set xs at place))
-      (ap (slot low (slice_set xs at place)) number ∙ (slot_set_same less ∙ is))
-      (λ m other. slot_set_other m (λ q. other (q ∙ sym number)))
 
   pub named_set : at < length xs → Named low xs → ((e : Entry B) → place ≡ Some e → e.number ≡ low + at) → Named low (slice_set xs at place)
   named_set less named here k e is =
@@ -115,11 +76,38 @@ module _ {B : Type 0} where
   pub many_has : (low : ℕ) (xs : List (Option (Entry B))) (at n : ℕ) → at < length xs → low + at < n → one (slice_index_or xs at None) ≤ many (slot low xs) n
   many_has low xs at n less within = omega (arith, many_set low xs at None n less within)
 
-  pub none_push : (xs : List (Option (Entry B))) → ((k : ℕ) → slice_index_or xs k None ≡ None) → (k : ℕ) → slice_index_or (xs ++ None ∷ []) k None ≡ None
-  none_push [] none zero = refl
-  none_push [] none (suc k) = refl
-  none_push (x ∷ xs) none zero = none zero
-  none_push (x ∷ xs) none (suc k) = none_push xs (λ j. none (suc j)) k
+  -- the first full place of those from `from` on
+  pub next_place : (xs : List (Option (Entry B))) (from : ℕ) (ahead : List (Option (Entry B))) (r : Option ℕ) → ahead ≡ slice_range xs from (length xs) → length ahead + from ≡ length xs → MatchOption r (AllWithin (λ o. o ≡ None) ahead 0 (length ahead)) (λ i. (i < length ahead) × HoldsAt (λ o. is_some o ≡ true) ahead i × AllWithin (λ o. o ≡ None) ahead 0 i) → Next (λ k. slice_index_or xs k None) from (option_map (λ i. from + i) r)
+  next_place xs from ahead r is long found = next r found
+    where
+      read : (k : ℕ) → k < length ahead → get_or xs (from + k) None ≡ get_or ahead k None
+      read k less = sym (ap (λ l. get_or l k None) is ∙ get_or-take (length xs - from) (drop from xs) k None (omega arith) ∙ get_or-drop from xs k None)
+
+      read_from : (n : ℕ) → from ≤ n → n < length xs → get_or xs n None ≡ get_or ahead (n - from) None
+      read_from n past less = let e : n ≡ from + (n - from) = omega arith in ap (λ (k : ℕ). get_or xs k None) e ∙ read (n - from) (omega arith)
+
+      next : (r : Option ℕ) → MatchOption r (AllWithin (λ o. o ≡ None) ahead 0 (length ahead)) (λ i. (i < length ahead) × HoldsAt (λ o. is_some o ≡ true) ahead i × AllWithin (λ o. o ≡ None) ahead 0 i) → Next (λ k. slice_index_or xs k None) from (option_map (λ i. from + i) r)
+      next None none = λ n past.
+          ⊎_elim
+          (λ (h : n < length xs). read_from n past h ∙ none (n - from) None (omega arith) (omega arith))
+          (λ (h : length xs ≤ n). get_or_past xs n None h)
+          (cases_lt n (length xs))
+      next (Some i) first = record {
+        from = omega arith;
+        there = ap is_some (read i first.0) ∙ first.1 None;
+        none_before = λ n past before. read_from n past (omega (arith, first.0)) ∙ first.2 (n - from) None (omega arith) (omega arith);
+      }
+
+  -- what a closure gives that gives none each time
+  pub none_from_calls : {F : Type 0} (step : F → Option (Entry B) → F → Type 0) (f : F) (xs : List (Option (Entry B))) → ((f : F) (x : Option (Entry B)) (h : F) → step f x h → x ≡ None) → (last : F) × FoldsTo step f xs last → (k : ℕ) → slice_index_or xs k None ≡ None
+  none_from_calls step f [] none ran k = refl
+  none_from_calls step f (x ∷ xs) none ran zero = none f x ran.1.0 ran.1.1
+  none_from_calls step f (x ∷ xs) none ran (suc k) = none_from_calls step ran.1.0 xs none (ran.0, ran.1.2) k
+
+  pub none_from_growth : {F : Type 0} (step : F → Option (Entry B) → F → Type 0) (f : F) (n : ℕ) (before xs : List (Option (Entry B))) → before ≡ [] → ((f : F) (x : Option (Entry B)) (h : F) → step f x h → x ≡ None) → AppendsResults step (take n before) xs f → (k : ℕ) → slice_index_or xs k None ≡ None
+  none_from_growth step f n before xs empty none ran k =
+      let old : take n before ≡ [] = ap (take n) empty ∙ take-nil n in
+      ap (λ (l : List (Option (Entry B))). get_or l k None) (ran.2 ∙ ap (λ l. l ++ ran.0) old) ∙ none_from_calls step f ran.0 none (ran.1, ran.3) k
 
   pub slot_none : (low : ℕ) (xs : List (Option (Entry B))) → ((k : ℕ) → slice_index_or xs k None ≡ None) → (n : ℕ) → slot low xs n ≡ None
   slot_none low xs none n =

@@ -5,6 +5,8 @@ pub mod edit;
 pub mod entry;
 pub mod ordered;
 pub mod packed;
+pub mod range;
 pub mod slots;
 pub mod table;
 pub mod uses;
+pub mod walk;

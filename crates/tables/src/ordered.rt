@@ -24,27 +24,15 @@ pub fn search<R: Keyed>(records: &[R], key: &R::Key) -> Result<usize, usize>
     ensures within { MatchResult result (λ i. i < length records.now) (λ i. i ≤ length records.now) }
     ensures located { Climbs R.Keyed.rank records.now → Located R.Keyed.rank (R.Keyed.sought key.now) records.now result }
 {
-    let mut low = 0;
-    let mut high = records.len();
-    while low < high {
-        let mid = low + (high - low) / 2;
-        match records[mid].compare(key) {
-            Ordering::Less => low = mid + 1,
-            Ordering::Equal => return Ok(mid),
-            Ordering::Greater => high = mid,
-        }
-    }
-    Err(low)
+    records.binary_search_by(|record| record.compare(key))
 }
 
 // Moves the last record down to the place `to`: the second half of an insertion.
 pub fn sink<R>(records: &mut [R], to: usize)
     ensures { Sunk records.old to records.new }
 {
-    let mut at = records.len().saturating_sub(1);
-    while at > to {
-        records.swap(at - 1, at);
-        at -= 1;
+    if to < records.len() {
+        records[to..].rotate_right(1);
     }
 }
 
@@ -52,11 +40,8 @@ pub fn sink<R>(records: &mut [R], to: usize)
 pub fn raise<R>(records: &mut [R], from: usize)
     ensures { Raised records.old from records.new }
 {
-    let last = records.len().saturating_sub(1);
-    let mut at = from;
-    while at < last {
-        records.swap(at, at + 1);
-        at += 1;
+    if from < records.len() {
+        records[from..].rotate_left(1);
     }
 }
 

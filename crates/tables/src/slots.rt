@@ -2,93 +2,84 @@
 // at each place that they pass.
 ghost use Rattle.std.specs.Prelude.{◌≡◌, ℕ, suc, ◌+◌, ◌-◌, ◌^◌, ◌<◌, true, false, IfOk, Some, None, vec_len, Option, MatchOption, slice_index_or, slice_set};
 ghost use Rattle.tables.specs.declared.entry.Entry.{Entry};
-ghost use Rattle.tables.specs.Maps.{many, one, inside, start, Next, putting, put_answer};
-ghost use Rattle.tables.specs.Placed.{slot, Named};
+ghost use Rattle.tables.specs.Maps.{many, one, inside, start, Next, put_answer};
+ghost use Rattle.tables.specs.declared.edit.Edit.TheVariants.{Put};
+ghost use Rattle.tables.specs.Placed.{slot, slots_view, Named};
+ghost use Rattle.tables.specs.Replays.{edited, Agree};
 ghost use Rattle.std.proofs.Common.{arith, rules};
 ghost use Rattle.tables.specs.Slotted.{slot_within, slot_named};
 
 use crate::entry::Entry;
-use crate::table::{Table, in_range, numbers};
+use crate::range::Range;
+use crate::table::Table;
 use std::alloc::{AllocError, Global};
 
 #[derive(Drop)]
 pub struct Slots<B> {
-    low: u32,
-    high: u32,
+    range: Range,
     places: Vec<Option<Entry<B>>>,
     held: usize,
-    ghost fits: { high < 2 ^ 32 },
-    ghost sized: { vec_len places ≡ suc high - low },
-    ghost each: { Named low places.items },
-    ghost counted: { held ≡ many (slot low places.items) (suc high) },
+    ghost sized: { vec_len places ≡ suc range.last - range.first },
+    ghost each: { Named range.first places.items },
+    ghost counted: { held ≡ many (slot range.first places.items) (suc range.last) },
 }
 
 fn empty_places<B: Drop>(heap: Global, size: usize) -> Result<Vec<Option<Entry<B>>>, AllocError>
     ensures { IfOk result (λ v. (vec_len v ≡ size) × ((k : ℕ) → slice_index_or v.items k None ≡ None)) }
 {
-    let mut places = Vec::with_capacity(heap, size)?;
-    while places.len() < size {
-        places.push_reserved(None);
-    }
+    let mut places = Vec::new(heap);
+    places.resize_with(size, || None)?;
     Ok(places)
 }
 
 fn empty_all<B: Drop>(places: &mut [Option<Entry<B>>])
     ensures { (k : ℕ) → slice_index_or places.new k None ≡ None }
 {
-    for place in places.iter_mut() {
-        *place = None;
-    }
+    places.fill_with(|| None);
 }
 
 // The index of the first place from `from` on that has a record.
 fn first_full<B>(places: &[Option<Entry<B>>], from: usize) -> Option<usize>
     ensures { Next (λ k. slice_index_or places.now k None) from result }
 {
-    let mut i = from;
-    while i < places.len() {
-        if places[i].is_some() {
-            return Some(i);
-        }
-        i += 1;
-    }
-    None
-}
-
-// The place from which a walk looks on, where `low` has the place 0.
-fn first_place(low: u32, above: Option<u32>) -> usize
-    ensures { result ≡ start above - low }
-{
-    match above {
-        Some(number) => (number as usize + 1).saturating_sub(low as usize),
-        None => 0,
-    }
+    let rest = places.get(from..)?;
+    let ahead = rest.iter().position(|place| place.is_some())?;
+    Some(from + ahead)
 }
 
 fn one_if<B>(place: &Option<Entry<B>>) -> usize
     ensures { result ≡ one place.now }
 {
-    if place.is_some() { 1 } else { 0 }
+    usize::from(place.is_some())
 }
 
 impl<B: Drop> Slots<B> {
     // The place of a number of the range.
     fn place(&self, number: u32) -> Option<usize>
-        ensures { MatchOption result (inside self.now.low self.now.high number ≡ false) (λ at. (inside self.now.low self.now.high number ≡ true) × (number ≡ self.now.low + at) × (at < vec_len self.now.places)) }
+        ensures { MatchOption result (inside self.now.range.first self.now.range.last number ≡ false) (λ at. (inside self.now.range.first self.now.range.last number ≡ true) × (number ≡ self.now.range.first + at) × (at < vec_len self.now.places)) }
     {
-        if !in_range(self.low, self.high, number) {
+        if !self.range.holds(number) {
             return None;
         }
-        Some((number - self.low) as usize)
+        Some((number - self.range.first) as usize)
+    }
+
+    // The place from which a walk looks on.
+    fn place_above(&self, above: Option<u32>) -> usize
+        ensures { result ≡ start above - self.now.range.first }
+    {
+        match above {
+            Some(number) => (number as usize + 1).saturating_sub(self.range.first as usize),
+            None => 0,
+        }
     }
 
     // Puts a record or none into a place, and keeps the count.
     fn store(&mut self, at: usize, place: Option<Entry<B>>)
         requires within { at < vec_len self.old.places }
-        requires number { (e : Entry B) → place ≡ Some e → e.number ≡ self.old.low + at }
+        requires number { (e : Entry B) → place ≡ Some e → e.number ≡ self.old.range.first + at }
         ensures items { self.new.places.items ≡ slice_set self.old.places.items at place }
-        ensures low { self.new.low ≡ self.old.low }
-        ensures high { self.new.high ≡ self.old.high }
+        ensures range { self.new.range ≡ self.old.range }
     {
         let gone = one_if(&self.places[at]);
         let come = one_if(&place);
@@ -100,48 +91,39 @@ impl<B: Drop> Slots<B> {
 impl<B: Drop> Table for Slots<B> {
     type Body = B;
 
-    ghost low = { λ t. t.low };
+    ghost view = { λ t. slots_view t.range t.places.items };
 
-    ghost high = { λ t. t.high };
+    ghost bounded = { λ t. t.range.fits };
 
-    ghost at = { λ t. slot t.low t.places.items };
+    ghost within = { λ t n full. let within = slot_within t.range.first t.places.items n full in (within.0, omega arith) };
 
-    ghost bounded = { first_of (Prim.search rules, Prim.grind (arith, Self.row.coded.inj)) };
-
-    ghost within = { λ t n full. let within = slot_within t.low t.places.items n full in (within.0, omega arith) };
-
-    ghost named = { λ t. slot_named t.low t.places.items t.each };
+    ghost named = { λ t. slot_named t.range.first t.places.items t.each };
 
     fn new(heap: Global, first: u32, last: u32) -> Result<Slots<B>, AllocError> {
-        let places = empty_places(heap, numbers(first, last))?;
+        let range = Range::new(first, last);
+        let places = empty_places(heap, range.size())?;
         Ok(Slots {
-            low: first,
-            high: last,
+            range,
             places,
             held: 0,
         })
     }
 
     fn first(&self) -> u32 {
-        self.low
+        self.range.first
     }
 
     fn last(&self) -> u32 {
-        self.high
+        self.range.last
     }
 
     fn get(&self, number: u32) -> Option<&Entry<B>> {
-        match self.place(number) {
-            Some(at) => self.places[at].as_ref(),
-            None => None,
-        }
+        self.places[self.place(number)?].as_ref()
     }
 
     fn put(&mut self, item: Entry<B>) -> Result<(), Entry<B>>
-        ensures answer { result ≡ put_answer self.old.low self.old.high item }
-        ensures map { (n : ℕ) → slot self.new.low self.new.places.items n ≡ putting self.old.low self.old.high (slot self.old.low self.old.places.items) item n }
-        ensures low { self.new.low ≡ self.old.low }
-        ensures high { self.new.high ≡ self.old.high }
+        ensures answer { result ≡ put_answer (slots_view self.old.range self.old.places.items) item }
+        ensures change { Agree (slots_view self.new.range self.new.places.items) (edited (slots_view self.old.range self.old.places.items) (Put item)) }
     {
         match self.place(item.number) {
             Some(at) => {
@@ -153,9 +135,8 @@ impl<B: Drop> Table for Slots<B> {
     }
 
     fn remove(&mut self, number: u32) {
-        match self.place(number) {
-            Some(at) => self.store(at, None),
-            None => {}
+        if let Some(at) = self.place(number) {
+            self.store(at, None);
         }
     }
 
@@ -169,9 +150,7 @@ impl<B: Drop> Table for Slots<B> {
     }
 
     fn next(&self, above: Option<u32>) -> Option<u32> {
-        match first_full(&self.places, first_place(self.low, above)) {
-            Some(at) => Some(self.low + at as u32),
-            None => None,
-        }
+        let at = first_full(&self.places, self.place_above(above))?;
+        Some(self.range.first + at as u32)
     }
 }

@@ -1,30 +1,22 @@
 // What holds of every make of table.
-ghost use Rattle.std.specs.Prelude.{◌≡◌, ℕ, suc};
-ghost use Rattle.tables.specs.Maps.{many};
+ghost use Rattle.std.specs.Prelude.{◌≡◌};
+ghost use Rattle.tables.specs.Maps.{count_of};
 ghost use Rattle.tables.specs.Replays.{edited, replay, Agree, Alike};
 
 use crate::edit::Edit;
 use crate::table::Table;
 
-// How many records a walk by `next` meets: as many as are counted.
+// How many records a walk meets: as many as are counted.
 pub fn walked<T: Table>(table: &T) -> usize
-    ensures { result ≡ many (T.Table.at table.now) (suc (T.Table.high table.now)) }
+    ensures { result ≡ count_of (T.Table.view table.now) }
 {
-    let mut met = 0;
-    let mut reached = None;
-    while let Some(number) = table.next(reached) {
-        met += 1;
-        reached = Some(number);
-    }
-    met
+    table.iter().count()
 }
 
 fn apply_one<T: Table>(table: &mut T, edit: &Edit<T::Body>)
 where
     T::Body: Copy,
-    ensures map { (n : ℕ) → T.Table.at table.new n ≡ edited (T.Table.low table.old) (T.Table.high table.old) (T.Table.at table.old) edit.now n }
-    ensures low { T.Table.low table.new ≡ T.Table.low table.old }
-    ensures high { T.Table.high table.new ≡ T.Table.high table.old }
+    ensures { Agree (T.Table.view table.new) (edited (T.Table.view table.old) edit.now) }
 {
     match edit {
         Edit::Put(item) => {
@@ -39,9 +31,7 @@ where
 pub fn apply<T: Table>(table: &mut T, edits: &[Edit<T::Body>])
 where
     T::Body: Copy,
-    ensures map { (n : ℕ) → T.Table.at table.new n ≡ replay (T.Table.low table.old) (T.Table.high table.old) (T.Table.at table.old) edits.now n }
-    ensures low { T.Table.low table.new ≡ T.Table.low table.old }
-    ensures high { T.Table.high table.new ≡ T.Table.high table.old }
+    ensures { Agree (T.Table.view table.new) (replay (T.Table.view table.old) edits.now) }
 {
     for edit in edits {
         apply_one(table, edit);
@@ -56,7 +46,9 @@ pub fn apply_both<L: Table, R: Table<Body = L::Body>>(
 )
 where
     L::Body: Copy,
-    ensures { Agree (L.Table.low left.old) (R.Table.low right.old) (L.Table.high left.old) (R.Table.high right.old) (L.Table.at left.old) (R.Table.at right.old) → Alike (L.Table.low left.new) (R.Table.low right.new) (L.Table.high left.new) (R.Table.high right.new) (L.Table.at left.new) (R.Table.at right.new) }
+    ensures left { Agree (L.Table.view left.new) (replay (L.Table.view left.old) edits.now) }
+    ensures right { Agree (R.Table.view right.new) (replay (R.Table.view right.old) edits.now) }
+    ensures alike { Agree (L.Table.view left.old) (R.Table.view right.old) → Alike (L.Table.view left.new) (R.Table.view right.new) }
 {
     apply(left, edits);
     apply(right, edits);

@@ -1,12 +1,12 @@
 use Rattle.std.proofs.Common.{is_some, ap, arith}
-use Rattle.access.specs.Standing.{standing}
+use Rattle.access.specs.Standing.{standing, views_by}
 use Rattle.access.proofs.Containing.{told_some, told_none, laws_at}
 use Rattle.access.proofs.events.answer.Goals as goal
 
 pub returns-in-Some : goal.returns-in-Some
 returns-in-Some g c =
     let tables = c.args.tables.now in
-    let s = standing g.M.Users.Table.at g.M.Users.Table.high g.M.TimeSets.Table.at g.M.Zones.Table.at g.M.Groups.Table.at g.M.Holidays.Table.at g.M.Holidays.Table.high tables in
+    let s = standing (views_by g.M.Users.Table.view g.M.TimeSets.Table.view g.M.Zones.Table.view g.M.Groups.Table.view g.M.Holidays.Table.view tables) in
     let value = told_some s c.args.card c.args.door.number c.args.minute.now c.in-Some.found.now c.user_event.result c.in-Some.ensures c.user_event.ensures in
     record {
       value = value;
@@ -19,7 +19,7 @@ returns-in-Some g c =
 pub returns-in-None : goal.returns-in-None
 returns-in-None g c =
     let tables = c.args.tables.now in
-    let s = standing g.M.Users.Table.at g.M.Users.Table.high g.M.TimeSets.Table.at g.M.Zones.Table.at g.M.Groups.Table.at g.M.Holidays.Table.at g.M.Holidays.Table.high tables in
+    let s = standing (views_by g.M.Users.Table.view g.M.TimeSets.Table.view g.M.Zones.Table.view g.M.Groups.Table.view g.M.Holidays.Table.view tables) in
     let value = told_none s c.args.card c.args.door.number c.args.minute.now c.in-None.ensures in
     record {
       value = value;

@@ -1,21 +1,14 @@
-use Rattle.std.proofs.Common.{◌∙◌, take_all}
-use Rattle.tables.proofs.Replayed.{replay_step}
+use Rattle.std.proofs.Common.{take_all}
+use Rattle.tables.proofs.Replayed.{agree_self, replay_step}
 use Rattle.tables.proofs.uses.apply.Goals as goal
+
+pub loop-edit-init : goal.loop-edit-init
+loop-edit-init g c = agree_self (g.T.Table.view c.args.table.now)
 
 pub loop-edit-preserved : goal.loop-edit-preserved
 loop-edit-preserved g c =
-    let t = g.T.Table in
-    let was = c.args.table.now in
-    let before = c.loop-edit.table in
-    let inv = c.loop-edit.invariant in
-    let one = c.apply_one.ensures in (
-      replay_step (t.low was) (t.high was) (t.low before) (t.high before) (t.at was) (t.at before) (t.at c.apply_one.new.table) c.args.edits.now c.loop-edit.edit-index c.edit-item.result c.loop-edit-test.true c.edit-item.is inv.1 inv.2 inv.0 one.map,
-      one.low ∙ inv.1,
-      one.high ∙ inv.2,
-    )
+    let view = g.T.Table.view in
+    replay_step (view c.args.table.now) (view c.loop-edit.table) (view c.apply_one.new.table) c.args.edits.now c.loop-edit.edit-index c.edit-item.result c.loop-edit-test.true c.edit-item.is c.loop-edit.invariant c.apply_one.ensures
 
 pub returns : goal.returns
-returns g c =
-    let inv = c.loop-edit.invariant in
-    let all = take_all _ _ c.loop-edit-test.false in
-    record { map = λ n. rw all at (inv.0 n); low = inv.1; high = inv.2 }
+returns g c = let all = take_all _ _ c.loop-edit-test.false in rw all at c.loop-edit.invariant

@@ -1,26 +1,15 @@
-use Rattle.std.proofs.Common.{sym, ap, ◌∙◌, arith}
-use Rattle.std.specs.List.{flat_map}
-use Rattle.std.proofs.lemmas.List.{drop_all}
+use Rattle.std.proofs.Common.{rules, tests, ◌∙◌}
+use Rattle.std.proofs.lemmas.Iterator.{YieldsList-from_slice}
+use Rattle.std.proofs.lemmas.Iterator.Search.{all_from_yields_List}
+use Rattle.records.specs.declared.row.Row.{Row}
 use Rattle.records.specs.Zones.{sets_of}
 use Rattle.execution.specs.Naming.{there, all_there}
-use Rattle.execution.proofs.Every.{joined_more, joined_fail}
+use Rattle.execution.proofs.Every.{all_joined}
 use Rattle.execution.proofs.naming.ZoneNaming.names_there.Goals as goal
 
-pub returns-then-not-are_there : goal.returns-then-not-are_there
-returns-then-not-are_there g c =
-    let at = g.T.Table.at c.args.time_sets.now in
-    let found = c.in-Some.ensures in
-    let row = c.in-Some.row.now in
-    let wrong = sym (ap (λ r. all_there at (sets_of r)) (found.1 row)) ∙ sym (ap (all_there at) c.sets.ensures) ∙ sym c.are_there.ensures ∙ c.if-not-are_there.true in
-    sym (joined_fail (there at) sets_of c.args.self.now.rows c.loop-row.place row (omega (arith, found.0, c.args.self.now.eight)) wrong) ∙ c.loop-row.invariant
-
-pub loop-row-preserved : goal.loop-row-preserved
-loop-row-preserved g c =
-    let at = g.T.Table.at c.args.time_sets.now in
-    let found = c.in-Some.ensures in
-    let row = c.in-Some.row.now in
-    let right = sym (ap (λ r. all_there at (sets_of r)) (found.1 row)) ∙ sym (ap (all_there at) c.sets.ensures) ∙ sym c.are_there.ensures ∙ c.if-not-are_there.false in
-    sym (joined_more (there at) sets_of c.args.self.now.rows c.loop-row.place row (omega (arith, found.0, c.args.self.now.eight)) right) ∙ c.loop-row.invariant
-
 pub returns : goal.returns
-returns g c = sym (ap (λ l. all_there (g.T.Table.at c.args.time_sets.now) (flat_map sets_of l)) (drop_all c.loop-row.place c.args.self.now.rows (omega (arith, c.in_default.ensures, c.args.self.now.eight)))) ∙ c.loop-row.invariant
+returns g c =
+    let at = (g.T.Table.view c.args.time_sets.now).at in
+    let rows = c.args.self.now.rows in
+    all_from_yields_List (λ (r : Row). all_there at (sets_of r)) c.all.new.self _ c.all.result c.all.ensures.ran (YieldsList-from_slice rows (search rules)) (λ x b q k. search (rules, tests))
+    ∙ all_joined (there at) sets_of rows

@@ -5,4 +5,4 @@ use Rattle.tables.proofs.packed.PackedTable.count.Goals as goal
 pub returns : goal.returns
 returns g c =
     let self = c.args.self.now in
-    omega (arith, many_find (vec_items self.records) (suc self.high) self.ascends (λ k d h. omega (arith, (self.within k d h).1)))
+    omega (arith, many_find (vec_items self.records) (suc self.range.last) self.ascends (λ k d h. omega (arith, (self.within k d h).1)))

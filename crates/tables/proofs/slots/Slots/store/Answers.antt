@@ -12,10 +12,10 @@ overflow_sub-self g c =
     let xs = vec_items self.places in
     let less : c.args.at < length xs = omega arith in
     let gone = ap one (get_or_read xs c.args.at _ less c.index.ensures None) in
-    omega (arith, many_has self.low xs c.args.at (suc self.high) less (omega arith))
+    omega (arith, many_has self.range.first xs c.args.at (suc self.range.last) less (omega arith))
 
 pub overflow_add-self : goal.overflow_add-self
-overflow_add-self g c = let self = c.args.self.now in omega (arith, many_le (slot self.low (vec_items self.places)) (suc self.high), one_le c.args.place)
+overflow_add-self g c = let self = c.args.self.now in omega (arith, self.range.fits, many_le (slot self.range.first (vec_items self.places)) (suc self.range.last), one_le c.args.place)
 
 pub invariant_of-self : goal.invariant_of-self
 invariant_of-self g c =
@@ -23,6 +23,6 @@ invariant_of-self g c =
     let xs = vec_items self.places in
     let less : c.args.at < length xs = omega arith in
     let gone = ap one (get_or_read xs c.args.at _ less c.index.ensures None) in
-    let set = many_set self.low xs c.args.at c.args.place (suc self.high) less (omega arith) in
-    let has = many_has self.low xs c.args.at (suc self.high) less (omega arith) in
-    record { fits = self.fits; sized = self.sized; each = named_set self.low xs c.args.at c.args.place less self.each c.requires.number; counted = omega arith }
+    let set = many_set self.range.first xs c.args.at c.args.place (suc self.range.last) less (omega arith) in
+    let has = many_has self.range.first xs c.args.at (suc self.range.last) less (omega arith) in
+    record { sized = self.sized; each = named_set self.range.first xs c.args.at c.args.place less self.each c.requires.number; counted = omega arith }

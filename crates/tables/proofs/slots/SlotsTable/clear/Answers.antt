@@ -7,9 +7,9 @@ pub invariant_of-self : goal.invariant_of-self
 invariant_of-self g c =
     let self = c.args.self.now in
     let none = none_refilled self.places c.empty_all.new.places (omega arith) c.empty_all.ensures in
-    record { fits = self.fits; sized = self.sized; each = named_none self.low _ none; counted = sym (many_empty _ (suc self.high) (slot_none self.low _ none)) }
+    record { sized = self.sized; each = named_none self.range.first _ none; counted = sym (many_empty _ (suc self.range.last) (slot_none self.range.first _ none)) }
 
 pub returns : goal.returns
 returns g c =
     let self = c.args.self.now in
-    record { map = slot_none self.low _ (none_refilled self.places c.empty_all.new.places (omega arith) c.empty_all.ensures); low = refl {a = self.low}; high = refl {a = self.high} }
+    record { low_same = refl; high_same = refl; map_same = slot_none self.range.first _ (none_refilled self.places c.empty_all.new.places (omega arith) c.empty_all.ensures) }

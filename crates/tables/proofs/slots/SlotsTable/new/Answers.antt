@@ -5,10 +5,10 @@ use Rattle.tables.proofs.slots.SlotsTable.new.Goals as goal
 
 pub invariant_of-result : goal.invariant_of-result
 invariant_of-result g c =
+    let range = c.new-range.result in
     let none = c.in_ok-places.ensures.1 in
     record {
-      fits = omega arith;
       sized = omega (arith, c.in_ok-places.ensures.0);
-      each = named_none c.args.first _ none;
-      counted = sym (many_empty _ (suc c.args.last) (slot_none c.args.first _ none));
+      each = named_none range.first _ none;
+      counted = sym (many_empty _ (suc range.last) (slot_none range.first _ none));
     }
