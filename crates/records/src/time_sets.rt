@@ -53,7 +53,7 @@ impl Record for TimeSet {
         let number = number_within(FIRST_TIME_SET, LAST_TIME_SET, first)?;
         let start = TimeOfDay::new(start_hour, start_minute).ok_or(Misfit::Range)?;
         let end = TimeOfDay::new(end_hour, end_minute).ok_or(Misfit::Range)?;
-        if end.minute_of_day() < start.minute_of_day() {
+        if end < start {
             return Err(Misfit::Range);
         }
         let body = TimeSet { start, end };

@@ -9,7 +9,7 @@ pub enum Status {
     Active,
 }
 
-#[derive(Clone, Copy)]
+#[derive(Clone, Copy, PartialEq, Eq, Debug)]
 pub struct User {
     // 0 is no card.
     pub(crate) card: u64,

@@ -12,7 +12,7 @@ pub struct Kept {
 }
 
 // From a minute to a minute, both included.
-#[derive(Clone, Copy)]
+#[derive(Clone, Copy, PartialEq, Eq, Debug)]
 pub struct Validity {
     pub(crate) start: Minute,
     pub(crate) end: Minute,
@@ -20,7 +20,7 @@ pub struct Validity {
 }
 
 // Not a Result or an Option: an unused window is no error, and keeps its ten bytes.
-#[derive(Clone, Copy)]
+#[derive(Clone, Copy, PartialEq, Eq, Debug)]
 pub enum Window {
     Unused(Kept),
     Used(Validity),

@@ -37,7 +37,7 @@ fn validity_of(bytes: &[u8; 11]) -> Result<Validity, Misfit>
 {
     let start = minute_of(bytes[1..6].as_array().unwrap())?;
     let end = minute_of(bytes[6..11].as_array().unwrap())?;
-    if !start.not_after(&end) {
+    if end < start {
         return Err(Misfit::Range);
     }
     Ok(Validity { start, end })
