@@ -1,5 +1,6 @@
 -- The numbers by which a record names others.
-use Rattle.std.specs.Prelude.{ℕ, Bool, true, cond, ◌&&◌, List, [], ◌∷◌, ◌==◌, nat_le}
+use Rattle.std.specs.Prelude.{ℕ, Bool, cond, List, ◌==◌, nat_le}
+use Rattle.std.specs.List.{list_all}
 use Rattle.records.specs.declared.named.Named.{Named}
 use Rattle.records.specs.declared.named.Named.TheVariants.{Never, Always, Record}
 
@@ -9,5 +10,4 @@ named_by n = cond (n == 0) Never (cond (n == 1) Always (Record n))
 
 -- a zone, or one of the built-in numbers 0 and 1
 abbrev pub zones_named : List ℕ → Bool
-zones_named [] = true
-zones_named (z ∷ zs) = nat_le z 120 && zones_named zs
+zones_named zones = list_all (λ z. nat_le z 120) zones

@@ -1,68 +1,58 @@
 -- The bytes of a user.
-use Rattle.std.specs.Prelude.{◌≡◌, ℕ, ◌+◌, ◌*◌, ◌/◌, ◌%◌, ◌^◌, ◌<◌, ◌≤◌, true, false, ◌&&◌, leb, List, [], ◌∷◌, ◌++◌, length, take, drop, nat_le, slice_index, slice_index_or, refl}
-use Rattle.std.proofs.Common.{sym, ap, subst, ◌∙◌, arith, ⊎_elim}
+use Rattle.std.specs.Prelude.{◌≡◌, ℕ, ◌+◌, ◌/◌, ◌%◌, ◌^◌, ◌<◌, ◌≤◌, true, ◌&&◌, List, [], ◌∷◌, ◌++◌, length, take, drop, nat_le, slice_index, slice_index_or, refl}
+use Rattle.std.proofs.Common.{sym, ap, ◌∙◌, arith}
 use mathlib.Core.HLevel.{is_prop→PathP}
 use Rattle.std.proofs.Math.Bridge.{le_prop}
-use Rattle.std.specs.Coded.{coded_ℕ}
-use denote.Struct.Props.{≡_prop}
 use Rattle.std.proofs.Math.Nat.{div-div-eq-div-mul}
+use Rattle.std.specs.Int.{w32, w64, from_be_bytes, to_be_bytes}
 use Rattle.std.specs.Int.Digits.{number_from_digits as number}
 use Rattle.std.specs.List.{between}
-use Rattle.std.proofs.lemmas.List.{length-append, length-drop, take-append-drop, drop-drop, drop_more, take_all, take_at, drop_at, get_or-take, get_or-drop, get_or_past, length-take}
-use Rattle.std.proofs.lemmas.Bool.{cases_lt, ltb-true, le-leb, lt-leb, and_from, and_parts, and_left, and_right}
-use Rattle.records.specs.Bytes.{four_bytes}
+use Rattle.std.proofs.lemmas.Nat.{be_bytes_4, from_be_bytes-to_be_bytes_4, from_be_bytes-to_be_bytes_8}
+use Rattle.std.proofs.lemmas.List.{length-append, length-drop, take-append-drop, drop-drop, drop_more, take_all, take_at, drop_at, get_or-drop}
+use Rattle.std.proofs.lemmas.Bool.{ltb-true, le-leb, and_from, and_parts}
+use Rattle.records.specs.Bytes.{four_bytes, long_over}
 use Rattle.tables.specs.declared.entry.Entry.{Entry}
 use Rattle.records.specs.declared.user.Status.{Status}
 use Rattle.records.specs.declared.user.Status.TheVariants.{Off, Active}
 use Rattle.records.specs.declared.user.User.{User}
-use Rattle.records.specs.declared.window.Window.{Window}
-use Rattle.records.specs.Users.{four, card_bytes, status_byte, user_bytes, user_ranges, user_number, four_bytes_hold, BodyOf, BodyBehind}
+use Rattle.records.specs.Users.{four, card_bytes, status_byte, user_bytes, user_ranges, user_number, four_bytes_hold}
 use Rattle.records.specs.Windows.{window_bytes, window_ranges}
 use Rattle.records.specs.WindowBytes.{window_sized, window_apart, window_right}
 
--- each byte of a part is a byte
-pub part_byte : (bs : List ℕ) (at n : ℕ) → ((i : ℕ) → slice_index bs i < 256) → (i : ℕ) → slice_index (take n (drop at bs)) i < 256
-part_byte bs at n bytes i =
-    ⊎_elim (λ within. subst (λ b. b < 256) (sym (get_or-take n (drop at bs) i 0 within ∙ get_or-drop at bs i 0)) (bytes (at + i)))
-    (λ past. subst (λ b. b < 256) (sym (get_or_past (take n (drop at bs)) i 0 (omega (arith, length-take n (drop at bs))))) (omega arith)) (cases_lt i n)
+-- ---- numbers of four bytes and of eight
 
--- ---- numbers of four bytes
+four_digits : (a b c d : ℕ) → number 256 (a ∷ b ∷ c ∷ d ∷ []) ≡ from_be_bytes w32 (a ∷ b ∷ c ∷ d ∷ [])
+four_digits a b c d = omega arith
+
+eight_digits : (a b c d e f g h : ℕ) → number 256 (a ∷ b ∷ c ∷ d ∷ e ∷ f ∷ g ∷ h ∷ []) ≡ from_be_bytes w64 (a ∷ b ∷ c ∷ d ∷ e ∷ f ∷ g ∷ h ∷ [])
+eight_digits a b c d e f g h = omega arith
 
 pub four_back : (bs : List ℕ) → length bs ≡ 4 → ((i : ℕ) → slice_index bs i < 256) → four (number 256 bs) ≡ bs
-four_back bs long bytes =
-    let whole = four_bytes bs long in
-    let b0 = bytes 0 in
-    let b1 = bytes 1 in
-    let b2 = bytes 2 in
-    let b3 = bytes 3 in
-    ap (λ l. four (number 256 l)) (sym whole) ∙ four_of (slice_index bs 0) (slice_index bs 1) (slice_index bs 2) (slice_index bs 3) b0 b1 b2 b3 ∙ whole
-  where
-    four_of : (a b c d : ℕ) → a < 256 → b < 256 → c < 256 → d < 256 → four (number 256 (a ∷ b ∷ c ∷ d ∷ [])) ≡ a ∷ b ∷ c ∷ d ∷ []
-    four_of a b c d pa pb pc pd =
-        let n = number 256 (a ∷ b ∷ c ∷ d ∷ []) in
-        let e0 : n / 16777216 % 256 ≡ a = omega arith in
-        let e1 : n / 65536 % 256 ≡ b = omega arith in
-        let e2 : n / 256 % 256 ≡ c = omega arith in
-        let e3 : n % 256 ≡ d = omega arith in
-        λ i. e0 i ∷ e1 i ∷ e2 i ∷ e3 i ∷ []
+four_back bs long bytes = be_bytes_4 bs (number 256 bs) long bytes (ap (number 256) (sym (four_bytes bs long)) ∙ four_digits _ _ _ _)
 
 pub number_back : (n : ℕ) → n < 4294967296 → number 256 (four n) ≡ n
-number_back n small =
-    let one : n / 256 / 256 ≡ n / 65536 = div-div-eq-div-mul n 256 256 in
-    let two : n / 65536 / 256 ≡ n / 16777216 = div-div-eq-div-mul n 65536 256 in
-    let r0 : 256 * (n / 256) + n % 256 ≡ n = omega arith in
-    let r1 : 256 * (n / 65536) + n / 256 % 256 ≡ n / 256 = omega arith in
-    let r2 : 256 * (n / 16777216) + n / 65536 % 256 ≡ n / 65536 = omega arith in
-    let r3 : n / 16777216 % 256 ≡ n / 16777216 = omega arith in
-    omega arith
+number_back n small = four_digits _ _ _ _ ∙ from_be_bytes-to_be_bytes_4 n small
 
-pub card_back : (bs : List ℕ) (high low : ℕ) → length bs ≡ 8 → four high ≡ take 4 bs → four low ≡ take 4 (drop 4 bs) → low < 4294967296 → card_bytes (high * 4294967296 + low) ≡ bs
-card_back bs high low long h l small =
-    let upper : (high * 4294967296 + low) / 4294967296 ≡ high = omega arith in
-    let lower : (high * 4294967296 + low) % 4294967296 ≡ low = omega arith in
-    (λ i. four (upper i) ++ four (lower i)) ∙ (λ i. h i ++ l i) ∙ ap (λ r. take 4 bs ++ r) (take_all 4 (drop 4 bs) (omega (arith, length-drop 4 bs))) ∙ take-append-drop 4 bs
+-- a card byte by byte, and by its two halves
+pub card_is : (c : ℕ) → to_be_bytes w64 c ≡ card_bytes c
+card_is c =
+    let high = c / 4294967296 in
+    let a : c / 72057594037927936 ≡ high / 16777216 = sym (div-div-eq-div-mul c 4294967296 16777216) in
+    let b : c / 281474976710656 ≡ high / 65536 = sym (div-div-eq-div-mul c 4294967296 65536) in
+    let d : c / 1099511627776 ≡ high / 256 = sym (div-div-eq-div-mul c 4294967296 256) in
+    let e : c / 16777216 % 256 ≡ c % 4294967296 / 16777216 % 256 = omega arith in
+    let f : c / 65536 % 256 ≡ c % 4294967296 / 65536 % 256 = omega arith in
+    let g : c / 256 % 256 ≡ c % 4294967296 / 256 % 256 = omega arith in
+    let h : c % 256 ≡ c % 4294967296 % 256 = omega arith in
+    λ i. a i % 256 ∷ b i % 256 ∷ d i % 256 ∷ high % 256 ∷ e i ∷ f i ∷ g i ∷ h i ∷ []
 
--- ---- the parts of a user's bytes
+pub card_number : (c : ℕ) → c < 2 ^ 64 → number 256 (card_bytes c) ≡ c
+card_number c small = ap (number 256) (sym (card_is c)) ∙ eight_digits _ _ _ _ _ _ _ _ ∙ from_be_bytes-to_be_bytes_8 c small
+
+pub same_card : (c d : ℕ) → c < 2 ^ 64 → d < 2 ^ 64 → card_bytes c ≡ card_bytes d → c ≡ d
+same_card c d small small' is = sym (card_number c small) ∙ ap (number 256) is ∙ card_number d small'
+
+-- ---- the parts of the bytes behind a user's number
 
 cut_on : (bs : List ℕ) (n at next : ℕ) → at + n ≡ next → take n (drop at bs) ++ drop next bs ≡ drop at bs
 cut_on bs n at next is = ap (λ l. take n (drop at bs) ++ l) (ap (λ k. drop k bs) (sym is) ∙ sym (drop-drop n at bs)) ∙ take-append-drop n (drop at bs)
@@ -70,40 +60,23 @@ cut_on bs n at next is = ap (λ l. take n (drop at bs) ++ l) (ap (λ k. drop k b
 one_on : (bs : List ℕ) (at next : ℕ) → at < length bs → at + 1 ≡ next → slice_index bs at ∷ drop next bs ≡ drop at bs
 one_on bs at next within is = ap (λ k. slice_index bs at ∷ drop k bs) (sym is) ∙ sym (drop_more bs at 0 within)
 
-pub user_cut : (bs : List ℕ) → length bs ≡ 84 → take 4 bs ++ (between 4 12 bs ++ (between 12 43 bs ++ (between 43 54 bs ++ (slice_index bs 54 ∷ slice_index bs 55 ∷ (between 56 60 bs ++ (slice_index bs 60 ∷ (between 61 69 bs ++ between 69 84 bs))))))) ≡ bs
-user_cut bs long =
-    let rest = length-drop 69 bs in
-    let reserved : between 69 84 bs ≡ drop 69 bs = take_all 15 (drop 69 bs) (omega arith) in
-    let password = ap (λ l. between 61 69 bs ++ l) reserved ∙ cut_on bs 8 61 69 refl in
-    let bypass = ap (λ l. slice_index bs 60 ∷ l) password ∙ one_on bs 60 61 (omega arith) refl in
-    let groups = ap (λ l. between 56 60 bs ++ l) bypass ∙ cut_on bs 4 56 60 refl in
-    let kind = ap (λ l. slice_index bs 55 ∷ l) groups ∙ one_on bs 55 56 (omega arith) refl in
-    let status = ap (λ l. slice_index bs 54 ∷ l) kind ∙ one_on bs 54 55 (omega arith) refl in
-    let window = ap (λ l. between 43 54 bs ++ l) status ∙ cut_on bs 11 43 54 refl in
-    let name = ap (λ l. between 12 43 bs ++ l) window ∙ cut_on bs 31 12 43 refl in
-    let card = ap (λ l. between 4 12 bs ++ l) name ∙ cut_on bs 8 4 12 refl in
-    ap (λ l. take 4 bs ++ l) card ∙ take-append-drop 4 bs
-
--- bytes that a user was read of
-pub user_read : (bs : List ℕ) (number : ℕ) (window : Window) (status : Status) (u : User) → length bs ≡ 84 → four number ≡ take 4 bs → window_bytes window ≡ between 43 54 bs → status_byte status ≡ slice_index bs 54 → BodyOf bs window status u → user_bytes (record { number = number; body = u }) ≡ bs
-user_read bs n w s u long number window status told =
-    (λ i. number i ++ (told.card i ++ (told.name i ++ ((ap window_bytes told.window_is ∙ window) i ++ ((ap status_byte told.status_is ∙ status) i ∷ told.kind i ∷ (told.groups i ++ (told.bypass i ∷ (told.password i ++ told.reserved i)))))))) ∙ user_cut bs long
-
--- bytes behind its number that a user was read of
-pub user_read_behind : (rest : List ℕ) (number : ℕ) (window : Window) (status : Status) (u : User) → length rest ≡ 80 → window_bytes window ≡ between 39 50 rest → status_byte status ≡ slice_index rest 50 → BodyBehind rest window status u → user_bytes (record { number = number; body = u }) ≡ four number ++ rest
-user_read_behind rest n w s u long window status told =
-    (λ i. four n ++ (told.card i ++ (told.name i ++ ((ap window_bytes told.window_is ∙ window) i ++ ((ap status_byte told.status_is ∙ status) i ∷ told.kind i ∷ (told.groups i ++ (told.bypass i ∷ (told.password i ++ told.reserved i)))))))) ∙ user_cut (four n ++ rest) (omega arith)
+pub rest_cut : (bs : List ℕ) → length bs ≡ 80 → between 0 8 bs ++ (between 8 39 bs ++ (between 39 50 bs ++ (slice_index bs 50 ∷ slice_index bs 51 ∷ (between 52 56 bs ++ (slice_index bs 56 ∷ (between 57 65 bs ++ between 65 80 bs)))))) ≡ bs
+rest_cut bs long =
+    let rest = length-drop 65 bs in
+    let reserved : between 65 80 bs ≡ drop 65 bs = take_all 15 (drop 65 bs) (omega arith) in
+    let password = ap (λ l. between 57 65 bs ++ l) reserved ∙ cut_on bs 8 57 65 refl in
+    let bypass = ap (λ l. slice_index bs 56 ∷ l) password ∙ one_on bs 56 57 (omega arith) refl in
+    let groups = ap (λ l. between 52 56 bs ++ l) bypass ∙ cut_on bs 4 52 56 refl in
+    let kind = ap (λ l. slice_index bs 51 ∷ l) groups ∙ one_on bs 51 52 (omega arith) refl in
+    let status = ap (λ l. slice_index bs 50 ∷ l) kind ∙ one_on bs 50 51 (omega arith) refl in
+    let window = ap (λ l. between 39 50 bs ++ l) status ∙ cut_on bs 11 39 50 refl in
+    let name = ap (λ l. between 8 39 bs ++ l) window ∙ cut_on bs 31 8 39 refl in
+    ap (λ l. between 0 8 bs ++ l) name ∙ take-append-drop 8 bs
 
 -- ---- how many bytes a user has
 
 pub sized : (e : Entry User) → length (user_bytes e) ≡ 84
-sized e =
-    let u = e.body in
-    let last = length-append u.password u.reserved in
-    let groups = length-append u.groups (u.bypass ∷ (u.password ++ u.reserved)) in
-    let window = length-append (window_bytes u.window) (status_byte u.status ∷ u.kind ∷ (u.groups ++ (u.bypass ∷ (u.password ++ u.reserved)))) in
-    let name = length-append u.name (window_bytes u.window ++ (status_byte u.status ∷ u.kind ∷ (u.groups ++ (u.bypass ∷ (u.password ++ u.reserved))))) in
-    omega (arith, last, groups, window, name, window_sized u.window, u.named, u.four, u.secret, u.rest)
+sized e = let u = e.body in simp length-append (omega (arith, window_sized u.window, u.named, u.four, u.secret, u.rest))
 
 -- ---- no two users have the same bytes
 
@@ -115,12 +88,6 @@ same_status Off Off is = refl
 same_status Off Active is = absurd (omega arith)
 same_status Active Off is = absurd (omega arith)
 same_status Active Active is = refl
-
-pub same_card : (c d : ℕ) → c < 2 ^ 64 → d < 2 ^ 64 → card_bytes c ≡ card_bytes d → c ≡ d
-same_card c d small small' is =
-    let high = sym (number_back (c / 4294967296) (omega arith)) ∙ ap (λ l. number 256 (take 4 l)) is ∙ number_back (d / 4294967296) (omega arith) in
-    let low = sym (number_back (c % 4294967296) (omega arith)) ∙ ap (λ l. number 256 (drop 4 l)) is ∙ number_back (d % 4294967296) (omega arith) in
-    omega arith
 
 -- the parts of two users with the same bytes
 record Same (e f : Entry User) : Type 0 where
@@ -174,11 +141,11 @@ apart e f holds holds' is =
         password = s.password i;
         reserved = s.reserved i;
         eight = is_prop→PathP (λ j. s.card j < 2 ^ 64) (λ j. le_prop) u.eight v.eight i;
-        named = is_prop→PathP (λ j. length (s.name j) ≡ 31) (λ j. ≡_prop coded_ℕ (length (s.name j)) 31) u.named v.named i;
+        named = long_over 31 s.name u.named v.named i;
         kinds = is_prop→PathP (λ j. s.kind j ≤ 5) (λ j. le_prop) u.kinds v.kinds i;
-        four = is_prop→PathP (λ j. length (s.groups j) ≡ 4) (λ j. ≡_prop coded_ℕ (length (s.groups j)) 4) u.four v.four i;
-        secret = is_prop→PathP (λ j. length (s.password j) ≡ 8) (λ j. ≡_prop coded_ℕ (length (s.password j)) 8) u.secret v.secret i;
-        rest = is_prop→PathP (λ j. length (s.reserved j) ≡ 15) (λ j. ≡_prop coded_ℕ (length (s.reserved j)) 15) u.rest v.rest i;
+        four = long_over 4 s.groups u.four v.four i;
+        secret = long_over 8 s.password u.secret v.secret i;
+        rest = long_over 15 s.reserved u.rest v.rest i;
       };
     }
 
@@ -208,16 +175,6 @@ pub record Fields (e : Entry User) (bs : List ℕ) : Type 0 where
   pub reserved : between 69 84 bs ≡ e.body.reserved
   pub number : number 256 (between 0 4 bs) ≡ e.number
 
-eight_digits : (a b c d e f g h : ℕ) → number 256 (a ∷ b ∷ c ∷ d ∷ e ∷ f ∷ g ∷ h ∷ []) ≡ number 256 (a ∷ b ∷ c ∷ d ∷ []) * 4294967296 + number 256 (e ∷ f ∷ g ∷ h ∷ [])
-eight_digits a b c d e f g h = omega arith
-
-pub card_number : (c : ℕ) → c < 2 ^ 64 → number 256 (card_bytes c) ≡ c
-card_number c small =
-    let high = number_back (c / 4294967296) (omega arith) in
-    let low = number_back (c % 4294967296) (omega arith) in
-    let whole : c / 4294967296 * 4294967296 + c % 4294967296 ≡ c = omega arith in
-    eight_digits _ _ _ _ _ _ _ _ ∙ (λ i. high i * 4294967296 + low i) ∙ whole
-
 pub fields : (e : Entry User) → four_bytes_hold e.number ≡ true → Fields e (user_bytes e)
 fields e holds =
     let u = e.body in
@@ -241,24 +198,11 @@ status_right : (s : Status) → nat_le (status_byte s) 1 ≡ true
 status_right Off = refl
 status_right Active = refl
 
-pub ranges_from : (last : ℕ) (bs : List ℕ) (n status kind : ℕ) (window : List ℕ) → number 256 (between 0 4 bs) ≡ n → between 43 54 bs ≡ window → slice_index bs 54 ≡ status → slice_index bs 55 ≡ kind → user_number last n ≡ true → window_ranges window ≡ true → nat_le status 1 ≡ true → nat_le kind 5 ≡ true → user_ranges last bs ≡ true
-ranges_from last bs n status kind window n_is w_is s_is k_is right right_w right_s right_k =
-    and_from _ _ (ap (user_number last) n_is ∙ right) (and_from _ _ (ap window_ranges w_is ∙ right_w) (and_from _ _ (ap (λ b. leb b 1) s_is ∙ right_s) (ap (λ b. leb b 5) k_is ∙ right_k)))
-
 pub ranges_right : (last : ℕ) (e : Entry User) → (user_number last e.number && four_bytes_hold e.number) ≡ true → user_ranges last (user_bytes e) ≡ true
 ranges_right last e right =
     let u = e.body in
     let parts = and_parts _ _ right in
     let f = fields e parts.1 in
-    ranges_from last (user_bytes e) e.number (status_byte u.status) u.kind (window_bytes u.window) f.number f.window f.status f.kind parts.0 (window_right u.window) (status_right u.status) (le-leb u.kind 5 u.kinds)
-
-pub kind_wrong : (last : ℕ) (bs : List ℕ) → 5 < slice_index bs 55 → user_ranges last bs ≡ false
-kind_wrong last bs wrong =
-    and_right (user_number last (number 256 (between 0 4 bs))) _ (and_right (window_ranges (between 43 54 bs)) _ (and_right (nat_le (slice_index bs 54) 1) _ (lt-leb (slice_index bs 55) 5 wrong)))
-
-pub window_wrong : (last : ℕ) (bs : List ℕ) → window_ranges (between 43 54 bs) ≡ false → user_ranges last bs ≡ false
-window_wrong last bs wrong = and_right (user_number last (number 256 (between 0 4 bs))) _ (and_left (window_ranges (between 43 54 bs)) _ wrong)
-
-pub status_wrong : (last : ℕ) (bs : List ℕ) → nat_le (slice_index bs 54) 1 ≡ false → user_ranges last bs ≡ false
-status_wrong last bs wrong =
-    and_right (user_number last (number 256 (between 0 4 bs))) _ (and_right (window_ranges (between 43 54 bs)) _ (and_left (nat_le (slice_index bs 54) 1) _ wrong))
+    and_from _ _ (ap (user_number last) f.number ∙ parts.0)
+    (and_from _ _ (ap window_ranges f.window ∙ window_right u.window)
+    (and_from _ _ (ap (λ b. nat_le b 1) f.status ∙ status_right u.status) (ap (λ b. nat_le b 5) f.kind ∙ le-leb u.kind 5 u.kinds)))

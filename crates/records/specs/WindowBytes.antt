@@ -3,17 +3,16 @@ use Rattle.std.specs.Prelude.{◌≡◌, ℕ, ◌+◌, ◌-◌, ◌*◌, ◌≤�
 use Rattle.std.proofs.Common.{sym, ap, subst, ◌∙◌, arith}
 use mathlib.Core.HLevel.{is_prop→PathP}
 use Rattle.std.proofs.Math.Bridge.{le_prop}
-use Rattle.std.specs.Coded.{coded_ℕ}
-use denote.Struct.Props.{≡_prop}
 use Rattle.std.specs.List.{between}
 use Rattle.std.proofs.lemmas.List.{drop_more, drop-drop, take-append-drop, take_all, length-drop}
-use Rattle.std.proofs.lemmas.Bool.{and_from, or_left, or_right, lt-ltb, le-leb, eq-eqb}
+use Rattle.std.proofs.lemmas.Bool.{and_from, or_right, lt-ltb, le-leb, eq-eqb}
 use Rattle.calendar.specs.declared.date.Date.{Date}
 use Rattle.calendar.specs.declared.minute.Minute.{Minute}
 use Rattle.calendar.specs.Days.{real_date, day_count, minute_of_day}
 use Rattle.calendar.specs.Dates.{minute_number}
 use Rattle.calendar.proofs.Following.{real_parts}
 use Rattle.calendar.proofs.Same.{same_date, same_time, same_minute}
+use Rattle.records.specs.Bytes.{long_over}
 use Rattle.records.specs.declared.window.Window.{Window}
 use Rattle.records.specs.declared.window.Window.TheVariants.{Unused, Used}
 use Rattle.records.specs.Windows.{minute_bytes, minute_ranges, minute_said, validity_ranges, window_bytes, window_ranges}
@@ -23,32 +22,20 @@ use Rattle.records.specs.Windows.{minute_bytes, minute_ranges, minute_said, vali
 pub year_back : (d : Date) → 2000 + (d.year - 2000) ≡ d.year
 year_back d = omega (arith, (real_parts d.year d.month d.day d.real).from_2000)
 
-pub minute_in_range : (m : Minute) → minute_ranges (minute_bytes m) ≡ true
+minute_in_range : (m : Minute) → minute_ranges (minute_bytes m) ≡ true
 minute_in_range m =
     and_from _ _ (ap (λ y. real_date y m.date.month m.date.day) (year_back m.date) ∙ m.date.real) (and_from _ _ (lt-ltb _ _ m.time.hours) (lt-ltb _ _ m.time.minutes))
 
-pub minute_is_said : (m : Minute) → minute_number m ≡ minute_said (minute_bytes m)
+minute_is_said : (m : Minute) → minute_number m ≡ minute_said (minute_bytes m)
 minute_is_said m = ap (λ y. 1440 * day_count y m.date.month m.date.day + minute_of_day m.time.hour m.time.minute) (sym (year_back m.date))
 
-pub minute_read : (bs : List ℕ) (m : Minute) → minute_bytes m ≡ bs → (minute_ranges bs ≡ true) × (minute_number m ≡ minute_said bs)
-minute_read bs m is = (ap minute_ranges (sym is) ∙ minute_in_range m, minute_is_said m ∙ ap minute_said is)
-
 -- ---- eleven bytes
-
-pub window_cut : (bs : List ℕ) → length bs ≡ 11 → slice_index bs 0 ∷ between 1 11 bs ≡ bs
-window_cut bs eleven = ap (λ l. slice_index bs 0 ∷ l) (take_all 10 (drop 1 bs) (omega (arith, length_of_rest))) ∙ sym (drop_more bs 0 0 (omega arith))
-  where
-    length_of_rest : length (drop 1 bs) ≡ length bs - 1
-    length_of_rest = length-drop 1 bs
 
 pub validity_cut : (bs : List ℕ) → length bs ≡ 11 → slice_index bs 0 ∷ (between 1 6 bs ++ between 6 11 bs) ≡ bs
 validity_cut bs eleven =
     let rest = length-drop 6 bs in
     let last : between 6 11 bs ≡ drop 5 (drop 1 bs) = take_all 5 (drop 6 bs) (omega arith) ∙ sym (drop-drop 5 1 bs) in
     ap (λ l. slice_index bs 0 ∷ (between 1 6 bs ++ l)) last ∙ ap (λ l. slice_index bs 0 ∷ l) (take-append-drop 5 (drop 1 bs)) ∙ sym (drop_more bs 0 0 (omega arith))
-
-pub unused_in_range : (bs : List ℕ) → slice_index bs 0 ≡ 0 → window_ranges bs ≡ true
-unused_in_range bs is = or_left _ _ (eq-eqb (slice_index bs 0) 0 is)
 
 pub used_in_range : (bs : List ℕ) → slice_index bs 0 ≡ 1 → validity_ranges bs ≡ true → window_ranges bs ≡ true
 used_in_range bs is right = or_right _ _ (and_from _ _ (eq-eqb (slice_index bs 0) 1 is) right)
@@ -67,7 +54,7 @@ same_minutes m n is =
 pub window_apart : (w v : Window) → window_bytes w ≡ window_bytes v → w ≡ v
 window_apart (Unused k) (Unused l) is =
     let bytes = ap (drop 1) is in
-    λ i. Unused (record { bytes = bytes i; ten = is_prop→PathP (λ j. length (bytes j) ≡ 10) (λ j. ≡_prop coded_ℕ (length (bytes j)) 10) k.ten l.ten i })
+    λ i. Unused (record { bytes = bytes i; ten = long_over 10 bytes k.ten l.ten i })
 window_apart (Unused k) (Used v) is = absurd (omega (arith, ap (λ l. slice_index l 0) is))
 window_apart (Used v) (Unused k) is = absurd (omega (arith, ap (λ l. slice_index l 0) is))
 window_apart (Used v) (Used w) is =

@@ -10,9 +10,10 @@ ghost use Rattle.records.specs.DecodingLemmas.{group_yes};
 ghost use Rattle.std.proofs.Common.{arith};
 ghost use Rattle.records.specs.Bytes.{byte_holds};
 
-use crate::codec::place;
+use crate::codec::{byte_of, place};
 use crate::group::Group;
-use crate::limits::{FIRST_GROUP, GROUP_SIZE, LAST_ZONE};
+use crate::limits::{FIRST_GROUP, GROUP_SIZE, LAST_GROUP, LAST_ZONE};
+use crate::numbered::number_within;
 use crate::record::{Misfit, Record};
 use tables::entry::Entry;
 
@@ -20,12 +21,7 @@ use tables::entry::Entry;
 fn are_zones(zones: &[u8]) -> bool
     ensures { result ≡ zones_named zones.now }
 {
-    for zone in zones {
-        if LAST_ZONE < *zone {
-            return false;
-        }
-    }
-    true
+    zones.iter().all(|zone| *zone <= LAST_ZONE)
 }
 
 impl Record for Group {
@@ -58,26 +54,20 @@ impl Record for Group {
     }
 
     fn from_bytes(_last_user: u32, bytes: &[u8]) -> Result<Entry<Group>, Misfit> {
-        if bytes.len() != GROUP_SIZE {
-            return Err(Misfit::Size);
-        }
-        let mut zones = [0u8; 8];
-        zones.copy_from_slice(&bytes[1..9]);
-        if bytes[0] < FIRST_GROUP || !are_zones(&zones) {
+        let bytes = bytes.as_array::<GROUP_SIZE>().ok_or(Misfit::Size)?;
+        let number = number_within(FIRST_GROUP, LAST_GROUP, bytes[0])?;
+        let zones = *bytes[1..9].as_array().unwrap();
+        if !are_zones(&zones) {
             return Err(Misfit::Range);
         }
-        let number = bytes[0] as u32;
         let doors = bytes[9];
         let body = Group { zones, doors };
         Ok(Entry { number, body })
     }
 
     fn write(item: &Entry<Group>, out: &mut [u8]) -> Result<usize, Misfit> {
-        let Ok(number) = u8::try_from(item.number) else {
-            return Err(Misfit::Range);
-        };
-        let mut bytes = [0u8; GROUP_SIZE];
-        bytes[0] = number;
+        let mut bytes = [0; GROUP_SIZE];
+        bytes[0] = byte_of(item.number)?;
         bytes[1..9].copy_from_slice(&item.body.zones);
         bytes[9] = item.body.doors;
         place(&bytes, out)

@@ -9,10 +9,12 @@ ghost use Rattle.records.specs.DecodingLemmas.{holiday_yes};
 ghost use Rattle.std.proofs.Common.{arith};
 ghost use Rattle.records.specs.Bytes.{below_holds};
 
-use crate::codec::{month_day, place};
+use crate::codec::{byte_of, place};
 use crate::holiday::Holiday;
-use crate::limits::{HOLIDAY_SIZE, LAST_HOLIDAY};
+use crate::limits::{FIRST_HOLIDAY, HOLIDAY_SIZE, LAST_HOLIDAY};
+use crate::numbered::number_within;
 use crate::record::{Misfit, Record};
+use calendar::MonthDay;
 use tables::entry::Entry;
 
 impl Record for Holiday {
@@ -45,22 +47,15 @@ impl Record for Holiday {
     }
 
     fn from_bytes(_last_user: u32, bytes: &[u8]) -> Result<Entry<Holiday>, Misfit> {
-        if bytes.len() != HOLIDAY_SIZE {
-            return Err(Misfit::Size);
-        }
-        let day = month_day(bytes[1], bytes[2])?;
-        if LAST_HOLIDAY < bytes[0] {
-            return Err(Misfit::Range);
-        }
-        let number = bytes[0] as u32;
+        let [first, month, day] = *bytes.as_array::<HOLIDAY_SIZE>().ok_or(Misfit::Size)?;
+        let number = number_within(FIRST_HOLIDAY, LAST_HOLIDAY, first)?;
+        let day = MonthDay::new(month, day).ok_or(Misfit::Range)?;
         let body = Holiday { day };
         Ok(Entry { number, body })
     }
 
     fn write(item: &Entry<Holiday>, out: &mut [u8]) -> Result<usize, Misfit> {
-        let Ok(number) = u8::try_from(item.number) else {
-            return Err(Misfit::Range);
-        };
+        let number = byte_of(item.number)?;
         let day = item.body.day;
         let bytes = [number, day.month(), day.day()];
         place(&bytes, out)

@@ -17,6 +17,8 @@ pub const REST_SIZE: usize = 80;
 
 pub const CARD_SIZE: usize = 8;
 
+pub const WINDOW_SIZE: usize = 11;
+
 // Numbers 0 and 1 of a time set, a zone or a group are built in: never and always.
 pub const FIRST_TIME_SET: u8 = 2;
 

@@ -86,12 +86,20 @@ impl ByteNumbered for Holiday {
     ghost spans = { λ last n. Prim.search rules };
 }
 
+// The number that a byte is, if it is one from the first to the last. It takes these and no type: the proof of a
+// kind's own `from_bytes` would lead back to itself through the kind's `Record`.
+pub(crate) fn number_within(first: u8, last: u8, byte: u8) -> Result<u32, Misfit>
+    ensures { InRange Range (λ n. (n ≡ byte) × (inside first last n ≡ true)) (inside first last byte) result }
+{
+    if !(first..=last).contains(&byte) {
+        return Err(Misfit::Range);
+    }
+    Ok(u32::from(byte))
+}
+
 // The number that a byte is, if a record of the kind may have it.
 pub fn number_from<R: ByteNumbered>(byte: u8) -> Result<u32, Misfit>
     ensures { InRange Range (λ n. (n ≡ byte) × (inside R.FIRST R.LAST n ≡ true)) (inside R.FIRST R.LAST byte) result }
 {
-    if byte < R::FIRST || R::LAST < byte {
-        return Err(Misfit::Range);
-    }
-    Ok(u32::from(byte))
+    number_within(R::FIRST, R::LAST, byte)
 }

@@ -1,7 +1,7 @@
 // The time sets of one day.
 ghost use Rattle.std.specs.Prelude.{◌≡◌, length};
 
-#[derive(Clone, Copy)]
+#[derive(Clone, Copy, PartialEq, Eq, Debug)]
 pub struct Row {
     pub(crate) sets: [u8; 3],
     ghost three: { length sets ≡ 3 },

@@ -4,7 +4,7 @@ ghost use Rattle.calendar.specs.Days.{minute_of_day};
 
 use calendar::TimeOfDay;
 
-#[derive(Clone, Copy)]
+#[derive(Clone, Copy, PartialEq, Eq, Debug)]
 pub struct TimeSet {
     pub(crate) start: TimeOfDay,
     pub(crate) end: TimeOfDay,

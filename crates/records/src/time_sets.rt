@@ -9,10 +9,12 @@ ghost use Rattle.records.specs.DecodingLemmas.{time_set_yes};
 ghost use Rattle.std.proofs.Common.{arith};
 ghost use Rattle.records.specs.Bytes.{byte_holds};
 
-use crate::codec::{place, time_of_day};
-use crate::limits::{FIRST_TIME_SET, TIME_SET_SIZE};
+use crate::codec::{byte_of, place};
+use crate::limits::{FIRST_TIME_SET, LAST_TIME_SET, TIME_SET_SIZE};
+use crate::numbered::number_within;
 use crate::record::{Misfit, Record};
 use crate::time_set::TimeSet;
+use calendar::TimeOfDay;
 use tables::entry::Entry;
 
 impl Record for TimeSet {
@@ -45,25 +47,22 @@ impl Record for TimeSet {
     }
 
     fn from_bytes(_last_user: u32, bytes: &[u8]) -> Result<Entry<TimeSet>, Misfit> {
-        if bytes.len() != TIME_SET_SIZE {
-            return Err(Misfit::Size);
-        }
-        let start = time_of_day(bytes[1], bytes[2])?;
-        let end = time_of_day(bytes[3], bytes[4])?;
-        if bytes[0] < FIRST_TIME_SET || end.minute_of_day() < start.minute_of_day() {
+        let [first, start_hour, start_minute, end_hour, end_minute] = *bytes
+            .as_array::<TIME_SET_SIZE>()
+            .ok_or(Misfit::Size)?;
+        let number = number_within(FIRST_TIME_SET, LAST_TIME_SET, first)?;
+        let start = TimeOfDay::new(start_hour, start_minute).ok_or(Misfit::Range)?;
+        let end = TimeOfDay::new(end_hour, end_minute).ok_or(Misfit::Range)?;
+        if end < start {
             return Err(Misfit::Range);
         }
-        let number = bytes[0] as u32;
         let body = TimeSet { start, end };
         Ok(Entry { number, body })
     }
 
     fn write(item: &Entry<TimeSet>, out: &mut [u8]) -> Result<usize, Misfit> {
-        let Ok(number) = u8::try_from(item.number) else {
-            return Err(Misfit::Range);
-        };
-        let start = item.body.start;
-        let end = item.body.end;
+        let number = byte_of(item.number)?;
+        let TimeSet { start, end } = item.body;
         let bytes = [
             number,
             start.hour(),

@@ -9,13 +9,14 @@ pub enum Status {
     Active,
 }
 
-#[derive(Clone, Copy)]
+#[derive(Clone, Copy, PartialEq, Eq, Debug)]
 pub struct User {
     // 0 is no card.
     pub(crate) card: u64,
     pub(crate) name: [u8; 31],
     pub(crate) window: Window,
     pub(crate) status: Status,
+    // A type from 0 to 5: the six have no names and no meaning here, so it stays a number.
     pub(crate) kind: u8,
     pub(crate) groups: [u8; 4],
     pub(crate) bypass: u8,

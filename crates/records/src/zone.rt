@@ -3,7 +3,7 @@ ghost use Rattle.std.specs.Prelude.{◌≡◌, ◌<◌, ◌≤◌, length, Match
 
 use crate::row::Row;
 
-#[derive(Clone, Copy)]
+#[derive(Clone, Copy, PartialEq, Eq, Debug)]
 pub struct Zone {
     pub(crate) rows: [Row; 8],
     ghost eight: { length rows ≡ 8 },

@@ -1,13 +1,17 @@
-use Rattle.std.proofs.Common.{[], ◌∷◌, get_or, arith}
-use Rattle.records.specs.Bytes.{within}
-use Rattle.records.specs.ZoneBytes.{whole_rows}
+use Rattle.std.proofs.Common.{rules, ◌≡◌, ◌∷◌, length, get_or, take, drop, sym, ap, ◌∙◌, arith}
+use Rattle.std.specs.List.{flat_map}
+use Rattle.std.proofs.lemmas.List.{take_all, drop_more}
+use Rattle.records.specs.Zones.{sets_of}
+use Rattle.records.proofs.Rows.{joined, of_sets}
 use Rattle.records.proofs.zones.ZoneRecord.from_bytes.Goals as goal
 
-pub returns : goal.returns
-returns c =
-    let bs = c.args.bytes.now in
-    let number = within 2 120 (get_or bs 0 0) (omega arith) (omega arith) in
-    record {
-      read = (whole_rows (c.row_at.result ∷ c.row_at-2.result ∷ c.row_at-3.result ∷ c.row_at-4.result ∷ c.row_at-5.result ∷ c.row_at-6.result ∷ c.row_at-7.result ∷ c.row_at-8.result ∷ []) bs (c.row_at.ensures, (c.row_at-2.ensures, (c.row_at-3.ensures, (c.row_at-4.ensures, (c.row_at-5.ensures, (c.row_at-6.ensures, (c.row_at-7.ensures, (c.row_at-8.ensures, tt)))))))) (omega arith), number);
-      number = number;
-    }
+pub returns-clause-read : goal.returns-clause-read
+returns-clause-read c =
+    let bs = c.in_ok-bytes.bytes.now in
+    let long : length bs ≡ 25 = search rules in
+    let rest = take 24 (drop 1 bs) in
+    let whole = rw c.unwrap.ensures at c.as_array-2.ensures.cases in
+    let made = of_sets _ _ c.unwrap.result.now c.map-rows.result (ap length whole.same ∙ whole.long) c.map-rows.ensures.items (λ p s r q called. called.met) in
+    let cut : flat_map sets_of c.map-rows.result ≡ rest = made ∙ ap (flat_map (λ x. x)) (whole.same ∙ c.as_chunks.ensures.front) ∙ joined 8 rest (grind arith) in
+    let all : get_or bs 0 0 ∷ rest ≡ bs = ap (λ l. get_or bs 0 0 ∷ l) (take_all 24 (drop 1 bs) (grind arith)) ∙ sym (drop_more bs 0 0 (omega arith)) in
+    search rules

@@ -1,12 +1,6 @@
 use Rattle.std.proofs.Common.{◌∷◌, ◌++◌, sym, ◌∙◌, arith}
-use Rattle.records.specs.WindowBytes.{window_cut, validity_cut, unused_in_range, used_in_range}
-use Rattle.records.proofs.windows.window_of.Goals as goal
-
-pub returns-in-0 : goal.returns-in-0
-returns-in-0 c =
-    let bs = c.args.bytes.now in
-    let state = c.in-0.is in
-    ((λ i. sym state i ∷ c.kept_of.ensures i) ∙ window_cut bs (omega arith), unused_in_range bs state)
+use Rattle.records.specs.WindowBytes.{validity_cut, used_in_range}
+use Rattle.records.proofs.windows.WindowTryFromRefArrayU8WINDOWSIZE.try_from.Goals as goal
 
 pub returns-in_ok-validity_of-in-1 : goal.returns-in_ok-validity_of-in-1
 returns-in_ok-validity_of-in-1 c =
