@@ -1,9 +1,10 @@
 -- The bytes of what a command takes: as many as its body has, in range, and no two alike.
-use Rattle.std.proofs.Common.{◌≡◌, ℕ, ◌+◌, ◌*◌, Bool, true, false, eqb, leb, List, [], ◌∷◌, ◌++◌, length, get_or, take, drop, sym, refl, ap, ◌∙◌, mul-zero, mul-suc, arith}
+use Rattle.std.proofs.Common.{◌≡◌, ℕ, ◌*◌, Bool, true, eqb, leb, List, [], ◌∷◌, ◌++◌, length, get_or, take, drop, sym, refl, ap, ◌∙◌, mul-suc, arith}
 use Rattle.std.specs.Int.Digits.{number_from_digits}
 use Rattle.std.specs.List.{flat_map, AllByRecursion}
 use Rattle.std.proofs.ByRecursion.{All-weaker}
-use Rattle.std.proofs.lemmas.List.{length-append, take_at, drop_at}
+use Rattle.std.proofs.lemmas.List.{take_at, drop_at}
+use Rattle.std.proofs.lemmas.Grind.{common_steps}
 use Rattle.std.proofs.lemmas.Bool.{eq-eqb, le-leb, and_from, and_parts}
 use Rattle.tables.specs.declared.entry.Entry.{Entry}
 use Rattle.records.specs.declared.user.User.{User}
@@ -24,9 +25,8 @@ use Rattle.orders.specs.Meanings.{Takes, nothing, a_user_number, a_card, a_user,
 -- ---- records one behind the other
 
 pub joined_sized : {B : Type 0} (encoded : Entry B → List ℕ) (size : ℕ) → ((e : Entry B) → length (encoded e) ≡ size) → (es : List (Entry B)) → length (flat_map encoded es) ≡ size * length es
-joined_sized encoded size sized [] = sym (mul-zero size)
-joined_sized encoded size sized (e ∷ es) =
-    length-append (encoded e) (flat_map encoded es) ∙ (λ i. sized e i + joined_sized encoded size sized es i) ∙ sym (omega (arith, mul-suc size (length es)))
+joined_sized encoded size sized [] = grind (arith, common_steps)
+joined_sized encoded size sized (e ∷ es) = grind (arith, common_steps, joined_sized encoded size sized es, sized e, mul-suc)
 
 all_in_range : {B : Type 0} (encoded : Entry B → List ℕ) (size : ℕ) (ranges : List ℕ → Bool) → ((e : Entry B) → length (encoded e) ≡ size) → (es : List (Entry B)) → AllByRecursion (λ e. ranges (encoded e) ≡ true) es → every_record ranges size (length es) (flat_map encoded es) ≡ true
 all_in_range encoded size ranges sized [] right = refl
@@ -79,8 +79,7 @@ content_long last groups es right = counted_long group_bytes 10 group.sized es
 content_long last holidays es right = counted_long holiday_bytes 3 holiday_sized es
 
 overwrite_right : (o : Bool) → leb (overwrite_byte o) 1 ≡ true
-overwrite_right true = refl
-overwrite_right false = refl
+overwrite_right o = grind arith
 
 pub content_in_range : (last : ℕ) (t : Takes) (x : Content t) → ContentRight last t x → taken_right last t (content_bytes t x) ≡ true
 content_in_range last nothing x right = refl
@@ -97,10 +96,7 @@ content_in_range last groups es right = counted_in_range group_bytes 10 group_ra
 content_in_range last holidays es right = counted_in_range holiday_bytes 3 holiday_ranges _ holiday_sized holiday.ranges_right es right
 
 overwrite_apart : (o p : Bool) → overwrite_byte o ≡ overwrite_byte p → o ≡ p
-overwrite_apart true true is = refl
-overwrite_apart true false is = absurd (omega arith)
-overwrite_apart false true is = absurd (omega arith)
-overwrite_apart false false is = refl
+overwrite_apart o p is = grind arith
 
 pub content_apart : (last : ℕ) (t : Takes) (x y : Content t) → ContentRight last t x → ContentRight last t y → content_bytes t x ≡ content_bytes t y → x ≡ y
 content_apart last nothing x y right right' is = refl

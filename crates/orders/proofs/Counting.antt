@@ -1,8 +1,8 @@
 -- Records read one behind the other, with what was read.
-use Rattle.std.proofs.Common.{◌≡◌, ℕ, zero, suc, ◌*◌, ◌<◌, ◌≤◌, Bool, true, false, ◌&&◌, leb, List, [], ◌∷◌, ◌++◌, length, get_or, drop, Err, sym, refl, ap, ◌∙◌, mul-zero, mul-suc, arith}
+use Rattle.std.proofs.Common.{◌≡◌, ℕ, zero, suc, ◌*◌, ◌<◌, ◌≤◌, Bool, true, false, ◌&&◌, List, [], ◌∷◌, ◌++◌, length, get_or, drop, Err, sym, refl, ap, ◌∙◌, mul-zero, mul-suc, arith}
 use Rattle.std.specs.List.{flat_map, AllByRecursion}
 use Rattle.std.proofs.lemmas.List.{length-append, take_all, take_at, drop_at}
-use Rattle.std.proofs.lemmas.Bool.{false≢true, eqb-true, and_right}
+use Rattle.std.proofs.lemmas.Bool.{false≢true, eqb-true}
 use Rattle.tables.specs.declared.entry.Entry.{Entry}
 use Rattle.records.specs.Codec.{Reads}
 use Rattle.records.specs.declared.record.Misfit.{Misfit}
@@ -78,8 +78,7 @@ misfit_told size encoded ranges bytes Range told long = (refl, told.1)
 -- ---- a counted body
 
 pub counted_wrong : (ranges : List ℕ → Bool) (size : ℕ) (body : List ℕ) → every_record ranges size (get_or body 0 0) (drop 1 body) ≡ false → counted ranges size body ≡ false
-counted_wrong ranges size [] wrong = refl
-counted_wrong ranges size (n ∷ records) wrong = and_right (leb 1 n) _ wrong
+counted_wrong ranges size body wrong = grind arith
 
 pub counted_done : {B : Type 0} (encoded : Entry B → List ℕ) (numbers : ℕ → Bool) (size : ℕ) (body : List ℕ) → long_right (Counted size) body ≡ true → 1 ≤ get_or body 0 0 → get_or body 0 0 ≤ 255 → EntriesRead encoded numbers (get_or body 0 0) (drop 1 body) → CountedRead encoded size numbers body (record { start = 1; count = get_or body 0 0 })
 counted_done encoded numbers size [] long some few read = absurd (false≢true long)

@@ -1,5 +1,5 @@
 -- What a command takes comes back from its bytes.
-use Rattle.std.proofs.Common.{◌≡◌, ℕ, Bool, true, false, eqb, List, [], ◌∷◌, length, take, drop, Some, Ok, Err, Option, Result, refl, ap, ◌∙◌, arith}
+use Rattle.std.proofs.Common.{◌≡◌, ℕ, Bool, eqb, List, [], ◌∷◌, length, take, drop, Some, Ok, Err, Option, Result, refl, ap, ◌∙◌, arith}
 use Rattle.std.specs.Option.{option_map}
 use Rattle.std.specs.List.{flat_map}
 use Rattle.std.proofs.lemmas.List.{take_at, drop_at}
@@ -29,8 +29,7 @@ all_back encoded decoded size sized one (e ∷ es) =
     ap (λ o. and_then o (λ x. and_then (records_of decoded size (length es) (drop size (flat_map encoded (e ∷ es)))) (λ xs. Some (x ∷ xs)))) first ∙ ap (λ o. and_then o (λ xs. Some (e ∷ xs))) rest
 
 overwrite_again : (o : Bool) → eqb (overwrite_byte o) 1 ≡ o
-overwrite_again true = refl
-overwrite_again false = refl
+overwrite_again o = grind arith
 
 content_back : (last : ℕ) (t : Takes) (x : Content t) → ContentRight last t x → content_of t (content_bytes t x) ≡ Some x
 content_back last nothing x right = refl

@@ -1,8 +1,9 @@
 -- A frame asks for an order exactly when its bytes are that order's frame.
-use Rattle.std.proofs.Common.{◌≡◌, ℕ, zero, suc, ◌+◌, ◌-◌, ◌/◌, ◌%◌, ◌<◌, ◌≤◌, Bool, true, false, cond, ◌&&◌, leb, List, [], ◌∷◌, ◌++◌, length, get_or, take, drop, Some, None, Ok, Err, sum, Option, Result, sym, refl, ap, ◌∙◌, subst, arith}
+use Rattle.std.proofs.Common.{◌≡◌, ℕ, suc, ◌+◌, ◌-◌, ◌%◌, ◌<◌, Bool, true, false, cond, ◌&&◌, leb, List, [], ◌∷◌, ◌++◌, length, get_or, take, drop, Some, None, Ok, Err, sum, Option, Result, sym, refl, ap, ◌∙◌, subst, arith}
 use Rattle.std.specs.Int.Digits.{number_from_digits}
-use Rattle.std.proofs.lemmas.List.{length-append, length-take-le, take_at, take-append-drop, drop_more, drop_all, get_or-append_right}
-use Rattle.std.proofs.lemmas.Bool.{eqb-true, eq-eqb, leb-true, le-leb, and_from, and_parts}
+use Rattle.std.proofs.lemmas.List.{length-append, length-take-le, take_at}
+use Rattle.std.proofs.lemmas.Grind.{common_steps}
+use Rattle.std.proofs.lemmas.Bool.{le-leb, and_from, and_parts}
 use Rattle.line.specs.Frame.{shortest, ends_right, sums_right, Whole}
 use Rattle.records.specs.Users.{four}
 use Rattle.records.specs.UserBytes.{four_back}
@@ -28,30 +29,13 @@ closed_long : (h : List ℕ) → length (closed h) ≡ length h + 2
 closed_long h = length-append h (sum h % 256 ∷ 4 ∷ [])
 
 closed_ends : (h : List ℕ) → ends_right (closed h) ≡ true
-closed_ends h =
-    let long = closed_long h in
-    let one : (length (closed h) - 1) - length h ≡ 1 = omega arith in
-    let last = get_or-append_right h (sum h % 256 ∷ 4 ∷ []) (length h) (length (closed h) - 1) 0 refl (omega arith) ∙ ap (λ k. get_or (sum h % 256 ∷ 4 ∷ []) k 0) one in
-    and_from _ _ (le-leb 1 (length (closed h)) (omega arith)) (eq-eqb _ 4 last)
+closed_ends h = grind (arith, common_steps)
 
 closed_sums : (h : List ℕ) → sums_right (closed h) ≡ true
-closed_sums h =
-    let long = closed_long h in
-    let none : (length (closed h) - 2) - length h ≡ 0 = omega arith in
-    let last = get_or-append_right h (sum h % 256 ∷ 4 ∷ []) (length h) (length (closed h) - 2) 0 refl (omega arith) ∙ ap (λ k. get_or (sum h % 256 ∷ 4 ∷ []) k 0) none in
-    let before : take (length (closed h) - 2) (closed h) ≡ h = take_at h (sum h % 256 ∷ 4 ∷ []) (length (closed h) - 2) (omega arith) in
-    and_from _ _ (le-leb 2 (length (closed h)) (omega arith)) (eq-eqb _ _ (last ∙ ap (λ l. sum l % 256) (sym before)))
+closed_sums h = grind (arith, common_steps)
 
 closed_back : (f : List ℕ) → ends_right f ≡ true → sums_right f ≡ true → closed (take (length f - 2) f) ≡ f
-closed_back f ends sums =
-    let n = length f - 2 in
-    let enough = and_parts _ _ sums in
-    let two_at_least : 2 ≤ length f = leb-true 2 (length f) enough.0 in
-    let checksum = eqb-true _ _ enough.1 in
-    let at : length f - 1 ≡ n + 1 = omega arith in
-    let four_last : get_or f (n + 1) 0 ≡ 4 = ap (λ k. get_or f k 0) (sym at) ∙ eqb-true _ _ (and_parts _ _ ends).1 in
-    let tail : drop n f ≡ get_or f n 0 ∷ (get_or f (n + 1) 0 ∷ []) = drop_more f n 0 (omega arith) ∙ ap (λ l. get_or f n 0 ∷ l) (drop_more f (n + 1) 0 (omega arith) ∙ ap (λ l. get_or f (n + 1) 0 ∷ l) (drop_all (n + 1 + 1) f (omega arith))) in
-    (λ i. take n f ++ (sym checksum i ∷ sym four_last i ∷ [])) ∙ ap (λ l. take n f ++ l) (sym tail) ∙ take-append-drop n f
+closed_back f ends sums = grind (arith, common_steps)
 
 -- ---- from an order to its frame, and what is asked of it
 
@@ -71,40 +55,26 @@ asked_of last tid m right =
 
 -- ---- from a frame to the order that it asks for
 
-abbrev answer_or : {A : Type 0} → A → Result A Refusal → A
-answer_or d (Ok x) = x
-answer_or d (Err e) = d
-
-abbrev ok_count : {A : Type 0} → Result A Refusal → ℕ
-ok_count (Ok x) = 1
-ok_count (Err e) = 0
-
 cond_ok : {A : Type 0} (t : Bool) (r : Result A Refusal) (e : Refusal) (x : A) → cond t r (Err e) ≡ Ok x → (t ≡ true) × (r ≡ Ok x)
 cond_ok true r e x is = (refl, is)
-cond_ok false r e x is = let wrong : ◌≡◌ {A = ℕ} 0 1 = ap ok_count is in absurd (omega arith)
+cond_ok false r e x is = cc
 
 fields_ok : (last : ℕ) (r : Result (Command × List ℕ) Refusal) (p : Command × List ℕ) → with_fields last r ≡ Ok p → r ≡ Ok p
 fields_ok last (Ok q) p is = (cond_ok (fields_right last q.0 q.1) (Ok q) refusal.Range p is).1
-fields_ok last (Err e) p is = let wrong : ◌≡◌ {A = ℕ} 0 1 = ap ok_count is in absurd (omega arith)
+fields_ok last (Err e) p is = cc
 
 command_ok : (o : Option Command) (b : List ℕ) (c : Command) (b' : List ℕ) → with_command o b ≡ Ok (c, b') → (o ≡ Some c) × (b ≡ b')
-command_ok None b c b' is = let wrong : ◌≡◌ {A = ℕ} 0 1 = ap ok_count is in absurd (omega arith)
+command_ok None b c b' is = cc
 command_ok (Some d) b c b' is =
     let same = (cond_ok (long_right (size_of d) b) (Ok (d, b)) refusal.Length (c, b') is).1 in
-    (ap (λ r. Some (answer_or {A = Command × List ℕ} (d, b) r).0) same, ap (λ r. (answer_or {A = Command × List ℕ} (d, b) r).1) same)
+    let both : ◌≡◌ {A = Command × List ℕ} (d, b) (c, b') = cc in
+    (ap (λ p. Some p.0) both, ap (λ p. p.1) both)
 
 two_back : (a b tid : ℕ) → a < 256 → b < 256 → number_from_digits 256 (a ∷ b ∷ []) ≡ tid → a ∷ b ∷ [] ≡ two tid
-two_back a b tid small small' is =
-    let high : a ≡ tid / 256 % 256 = omega arith in
-    let low : b ≡ tid % 256 = omega arith in
-    λ i. high i ∷ low i ∷ []
+two_back a b tid small small' is = grind (arith, common_steps)
 
 four_small : (a b c d : ℕ) → a < 256 → b < 256 → c < 256 → d < 256 → (i : ℕ) → get_or (a ∷ b ∷ c ∷ d ∷ []) i 0 < 256
-four_small a b c d pa pb pc pd zero = pa
-four_small a b c d pa pb pc pd (suc zero) = pb
-four_small a b c d pa pb pc pd (suc (suc zero)) = pc
-four_small a b c d pa pb pc pd (suc (suc (suc zero))) = pd
-four_small a b c d pa pb pc pd (suc (suc (suc (suc i)))) = omega arith
+four_small a b c d pa pb pc pd i = grind (arith, common_steps)
 
 its_frame : (last tid : ℕ) (f : List ℕ) (m : Meaning) → ((i : ℕ) → get_or f i 0 < 256) → Whole tid f → asked last f ≡ Ok (m.0, body_bytes m) → f ≡ frame_bytes tid m
 its_frame last tid ([]) m bytes w asks = absurd (omega (arith, w.long_enough))
@@ -146,14 +116,7 @@ heads_same h g is =
 commands_same : (c d : Command) → command_byte c ≡ command_byte d → c ≡ d
 commands_same c d is =
     let both : Some c ≡ Some d = sym (commands_law.read_back c) ∙ ap command_of is ∙ commands_law.read_back d in
-    some_same c d both
-  where
-    the : Command → Option Command → Command
-    the c (Some d) = d
-    the c None = c
-
-    some_same : (c d : Command) → Some c ≡ Some d → c ≡ d
-    some_same c d both = ap (the c) both
+    cc
 
 meanings_same : (last : ℕ) (c d : Command) (x : Content (takes c)) (y : Content (takes d)) → c ≡ d → ContentRight last (takes c) x → ContentRight last (takes d) y → content_bytes (takes c) x ≡ content_bytes (takes d) y → ◌≡◌ {A = Meaning} (c, x) (d, y)
 meanings_same last c d x y is right right' same =

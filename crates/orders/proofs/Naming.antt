@@ -1,5 +1,5 @@
 -- Each command is read of its own byte and of no other.
-use Rattle.std.proofs.Common.{◌≡◌, ℕ, cond, eqb, List, [], ◌∷◌, Some, sym, refl, ap, ◌∙◌, ⊎_elim, arith}
+use Rattle.std.proofs.Common.{◌≡◌, ℕ, cond, eqb, List, [], ◌∷◌, Some, sym, refl, ap, ◌∙◌, ⊎_elim}
 use Rattle.std.proofs.lemmas.Bool.{eqb-true, cases_Bool}
 use Rattle.orders.specs.declared.command.Command.{Command}
 use Rattle.orders.specs.declared.command.Command.TheVariants.{DeleteUser, ClearUsers, QueryUser, CountUsers, QueryCard, ListUsers, RegisterUser, ReadUser, PutTimeSets, DeleteTimeSet, ClearTimeSets, ReadTimeSet, PutZones, DeleteZone, ClearZones, ReadZone, PutGroups, DeleteGroup, ClearGroups, ReadGroup, PutHolidays, DeleteHoliday, ClearHolidays, ReadHolidays, CountLog, ReadLog, ClearLog, ListTimeSets, ListZones, ListGroups}
@@ -38,7 +38,7 @@ read_back ListZones = refl
 read_back ListGroups = refl
 
 only_one : (b : ℕ) (c : Command) (cs : List Command) → first_with b cs ≡ Some c → b ≡ command_byte c
-only_one b c [] is = let no_way : ◌≡◌ {A = ℕ} 0 1 = cc in absurd (omega arith)
+only_one b c [] is = cc
 only_one b c (d ∷ cs) is =
     ⊎_elim (λ same. let found : Some d ≡ Some c = ap (λ t. cond t (Some d) (first_with b cs)) (sym same) ∙ is in let one : d ≡ c = cc in eqb-true b (command_byte d) same ∙ ap command_byte one)
     (λ other. only_one b c cs (ap (λ t. cond t (Some d) (first_with b cs)) (sym other) ∙ is)) (cases_Bool (eqb b (command_byte d)))

@@ -1,5 +1,5 @@
 -- A user in a body that has the byte OVERWRITE behind the number.
-use Rattle.std.proofs.Common.{◌≡◌, ℕ, zero, suc, ◌-◌, ◌<◌, ◌≤◌, true, false, eqb, List, ◌∷◌, ◌++◌, length, get_or, take, drop, IfOk, Some, None, Ok, Err, Option, Result, sym, refl, ap, ◌∙◌, arith}
+use Rattle.std.proofs.Common.{◌≡◌, ℕ, ◌-◌, ◌<◌, ◌≤◌, true, false, eqb, List, ◌∷◌, ◌++◌, length, get_or, take, drop, IfOk, Some, None, Ok, Err, Option, Result, sym, ap, ◌∙◌, arith}
 use Rattle.std.specs.Result.{result_ok}
 use Rattle.std.proofs.lemmas.List.{take_rest, length-drop, length-take, take_all, take-append-drop, drop-drop, drop_more}
 use Rattle.std.proofs.lemmas.Bool.{true≢false, and_parts}
@@ -20,9 +20,7 @@ use Rattle.orders.specs.Refusals.{refused_as}
 use Rattle.orders.proofs.Counting.{misfit_told}
 
 overwrite_back : (b : ℕ) → b ≤ 1 → overwrite_byte (eqb b 1) ≡ b
-overwrite_back zero small = refl
-overwrite_back (suc zero) small = refl
-overwrite_back (suc (suc b)) small = absurd (omega arith)
+overwrite_back b small = grind arith
 
 -- the bytes of the number, and those behind it: OVERWRITE and the rest
 module _ (last : ℕ) (body front behind : List ℕ) (n : ℕ) (front_is : front ≡ take 4 body) (behind_is : behind ≡ drop 4 body) (name : four n ≡ front) where

@@ -1,5 +1,6 @@
 -- A body read as what its command takes.
 use Rattle.std.proofs.Common.{◌≡◌, ℕ, true, List, [], ◌∷◌, length, get_or, sym, refl, ap, ◌∙◌, subst, arith}
+use Rattle.std.proofs.lemmas.Grind.{common_steps, elements}
 use Rattle.std.proofs.lemmas.Bool.{eqb-true}
 use Rattle.orders.specs.declared.command.Command.{Command}
 use Rattle.orders.specs.declared.order.Order.{Order}
@@ -23,14 +24,11 @@ plainly {last} {c} {d} {body} none size is right brings =
     taken_by is (record { content = held.0; brings = brings held.0; bytes = held.1 ∙ empty body (long body 0 size is right); right = held.2 })
   where
     empty : (body : List ℕ) → length body ≡ 0 → [] ≡ body
-    empty [] few = refl
-    empty (b ∷ body) many = absurd (omega arith)
+    empty body none = grind (arith, common_steps)
 
 -- a command that takes the number of a record
 pub numbered : {last : ℕ} {c d : Command} {body : List ℕ} {o : Order} (n : ℕ) → size_of d ≡ Fixed 1 → c ≡ d → long_right (size_of c) body ≡ true → n ≡ get_or body 0 0 → (n ∷ [] ≡ body → Taken last d body o) → Taken last c body o
 numbered {last} {c} {d} {body} n size is right read taken = taken_by is (taken (one body (long body 1 size is right) read))
   where
     one : (body : List ℕ) → length body ≡ 1 → n ≡ get_or body 0 0 → n ∷ [] ≡ body
-    one [] few read = absurd (omega arith)
-    one (b ∷ []) few read = λ i. read i ∷ []
-    one (b ∷ c ∷ body) many read = absurd (omega arith)
+    one body single read = grind (arith, elements)

@@ -25,7 +25,9 @@ impl Command {
             Command::PutHolidays => BodySize::Counted(HOLIDAY_SIZE),
             Command::RegisterUser => BodySize::Fixed(USER_SIZE + OVERWRITE_SIZE),
             Command::QueryCard => BodySize::Fixed(CARD_SIZE),
-            Command::DeleteUser | Command::QueryUser | Command::ReadUser => BodySize::Fixed(NUMBER_SIZE),
+            Command::DeleteUser | Command::QueryUser | Command::ReadUser => BodySize::Fixed(
+                NUMBER_SIZE,
+            ),
             Command::DeleteTimeSet
             | Command::ReadTimeSet
             | Command::DeleteZone
