@@ -5,6 +5,7 @@ ghost use Rattle.script.specs.Fields.{seen, skip, ends, after_mark, after_word, 
 
 use crate::hex::digit;
 
+// A loop, since `trim_ascii_start` takes tabs and line ends too.
 pub(crate) fn skip_spaces(text: &[u8]) -> &[u8]
     ensures { result.now ≡ skip text.now }
 {
@@ -80,7 +81,7 @@ fn next_number(n: u32, c: u8, limit: u32) -> Option<u32>
         .filter(|n| *n <= limit)
 }
 
-// A number of one digit or more, up to `limit`.
+// A number of one digit or more, up to `limit`. `parse` is not asked, since it takes a sign.
 pub(crate) fn number_word(text: &[u8], limit: u32) -> Option<(u32, &[u8])>
     ensures value { seen result ≡ number_word limit text.now }
     ensures bound { IfSome result (λ p. p.0 ≤ limit) }
