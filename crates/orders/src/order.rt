@@ -19,7 +19,7 @@ pub struct Place {
 }
 
 // A user to be registered: its number, whether it may replace one that stands, and where the bytes behind its
-// number begin. A place, as in `Place`.
+// number begin among those beside the order, as a `Place` says it of records.
 #[derive(Clone, Copy, PartialEq, Eq, Debug)]
 pub struct NewUser {
     pub number: u32,

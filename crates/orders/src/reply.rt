@@ -33,9 +33,7 @@ pub fn enclose(heading: &Heading, data: usize, out: &mut [u8]) -> Option<usize>
     ensures { Encloses heading.now «data» out.old out.new result }
 {
     let size = data.checked_add(AROUND)?;
-    let Ok(length) = u32::try_from(size) else {
-        return None;
-    };
+    let length = u32::try_from(size).ok()?;
     if out.len() < size {
         return None;
     }
