@@ -6,7 +6,7 @@ use Rattle.std.proofs.lemmas.List.{replicate_more, length_push}
 use Rattle.std.proofs.lemmas.Bool.{cases_lt}
 use Rattle.script.specs.declared.entries.Showing.{Showing}
 use Rattle.script.specs.Hex.{hex_text}
-use Rattle.script.specs.Printing.{padded, print_direction, print_show}
+use Rattle.script.specs.Printing.{padded, print_direction, show_fields}
 
 -- with zeros up to the width
 abbrev places : ℕ → ℕ → List ℕ
@@ -53,5 +53,5 @@ four_places n h =
     zeros 4 n ∙ last_place 2 n h ∙ ap (λ t. t ++ decimal (n % 10)) three ∙ rw (hundreds, tens, ones, append_assoc (padded (n / 100)) (decimal (n % 100 / 10)) (decimal (n % 100 % 10)))
 
 -- what one `write!` of the parts of a showing writes
-pub shown : (s : Showing) → (hex_text s.card ++ (codes " " ++ (decimal s.door ++ (codes " " ++ ((padded (s.year / 100) ++ padded (s.year % 100)) ++ (codes "-" ++ (padded s.month ++ (codes "-" ++ (padded s.date ++ (codes " " ++ (padded s.hour ++ codes ":"))))))))))) ++ (padded s.minute ++ (codes ":" ++ (padded s.second ++ (codes " " ++ print_direction s.direction)))) ≡ print_show s
+pub shown : (s : Showing) → (hex_text s.card ++ (codes " " ++ (decimal s.door ++ (codes " " ++ ((padded (s.year / 100) ++ padded (s.year % 100)) ++ (codes "-" ++ (padded s.month ++ (codes "-" ++ (padded s.date ++ (codes " " ++ (padded s.hour ++ codes ":"))))))))))) ++ (padded s.minute ++ (codes ":" ++ (padded s.second ++ (codes " " ++ print_direction s.direction)))) ≡ show_fields s
 shown s = simp append_assoc

@@ -23,28 +23,28 @@ abbrev pub print_tid : ℕ → List ℕ
 print_tid tid = hex_text (tid / 256 % 256 ∷ tid % 256 ∷ [])
 
 -- what stands behind the word `setup`
-abbrev pub print_setup : Setup → List ℕ
-print_setup s = print_tid s.tid ++ (codes " " ++ (hex_text s.mac ++ (codes " " ++ decimal s.last_user)))
+abbrev pub setup_fields : Setup → List ℕ
+setup_fields s = print_tid s.tid ++ (codes " " ++ (hex_text s.mac ++ (codes " " ++ decimal s.last_user)))
 
 -- what stands behind the word `show`
-abbrev pub print_show : Showing → List ℕ
-print_show s =
+abbrev pub show_fields : Showing → List ℕ
+show_fields s =
     hex_text s.card ++ (codes " " ++ (decimal s.door ++ (codes " " ++ (print_day s ++ (codes " " ++ (print_time s ++ (codes " " ++ print_direction s.direction)))))))
 
 -- a space and the bytes, or nothing where there are none
-abbrev pub print_bytes : List ℕ → List ℕ
-print_bytes [] = []
-print_bytes (b ∷ bs) = codes " " ++ hex_text (b ∷ bs)
+abbrev pub bytes_field : List ℕ → List ℕ
+bytes_field [] = []
+bytes_field (b ∷ bs) = codes " " ++ hex_text (b ∷ bs)
 
 -- what stands behind the first word
 abbrev pub print_fields : Said → List ℕ
-print_fields (setup s) = codes " " ++ print_setup s
-print_fields (send bs) = print_bytes bs
-print_fields (withdraw bs) = print_bytes bs
-print_fields (reply bs) = print_bytes bs
-print_fields (show s) = codes " " ++ print_show s
-print_fields (event n) = print_bytes (n ∷ [])
-print_fields (refused n) = print_bytes (n ∷ [])
+print_fields (setup s) = codes " " ++ setup_fields s
+print_fields (send bs) = bytes_field bs
+print_fields (withdraw bs) = bytes_field bs
+print_fields (reply bs) = bytes_field bs
+print_fields (show s) = codes " " ++ show_fields s
+print_fields (event n) = bytes_field (n ∷ [])
+print_fields (refused n) = bytes_field (n ∷ [])
 
 abbrev pub print_said : Said → List ℕ
 print_said s = word_of (kind_of s) ++ print_fields s

@@ -2,7 +2,7 @@
 ghost use Rattle.std.specs.Prelude.{◌≡◌, IfOk, Some, string_bytes};
 ghost use Rattle.script.specs.Back.{ReadsBack, ReadsAgain};
 ghost use Rattle.script.specs.Entries.{said};
-ghost use Rattle.script.specs.Printing.{print_direction, print_setup, print_show, print_said};
+ghost use Rattle.script.specs.Printing.{print_direction, setup_fields, show_fields, print_said};
 
 use crate::entries::{Entry, Setup, Showing};
 use crate::hex::Hex;
@@ -26,7 +26,7 @@ impl fmt::Display for Direction {
 }
 
 impl fmt::Display for Setup {
-    ghost output = { λ s. Some (print_setup s) };
+    ghost output = { λ s. Some (setup_fields s) };
 
     fn fmt<W: fmt::Write>(&self, f: &mut fmt::Formatter<W>) -> fmt::Result {
         write!(
@@ -40,7 +40,7 @@ impl fmt::Display for Setup {
 }
 
 impl fmt::Display for Showing {
-    ghost output = { λ s. Some (print_show s) };
+    ghost output = { λ s. Some (show_fields s) };
 
     fn fmt<W: fmt::Write>(&self, f: &mut fmt::Formatter<W>) -> fmt::Result {
         let Showing {
