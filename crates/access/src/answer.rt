@@ -6,7 +6,7 @@ use doors::Event;
 #[derive(Clone, Copy)]
 pub struct Answer {
     pub(crate) event: Event,
-    // 0 where nobody has the card.
+    // 0 where nobody has the card: no Option, since the log keeps this number as it is.
     pub(crate) user: u32,
 }
 

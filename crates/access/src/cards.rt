@@ -8,6 +8,7 @@ use records::User;
 use tables::entry::Entry;
 use tables::table::Table;
 
+// No Option in a user's record: its eight bytes may be any, and the rule asks of the number.
 const NO_CARD: u64 = 0;
 
 // Are the two one card, and is it one at all?

@@ -97,6 +97,7 @@ fn groups_and_zones(rt: HostRuntime) -> Result<(), Fail> {
 // A user whose bytes are all different, with a byte changed.
 fn changed_user(place: usize, byte: u8) -> [u8; 84] {
     let mut bytes = [0u8; 84];
+    // By places, since each has a value of its own.
     for i in 0..84usize {
         bytes[i] = 100 + i as u8;
     }

@@ -15,6 +15,7 @@ fn ready_at(heap: Global, bytes: &[u8], step: usize) -> Result<Vec<usize>, Alloc
     let mut line = Line::new(0x0001, FrameBuffer::new(heap)?);
     let mut ends = Vec::new(heap);
     let mut at: usize = 0;
+    // As many turns as bytes, so that a step of 0 ends too.
     for _ in 0..bytes.len() {
         let end = at.saturating_add(step).min(bytes.len());
         match line.feed(&bytes[at..end]) {

@@ -29,6 +29,7 @@ fn all_named<R: Record + Naming + Drop, T: Table>(
 ) -> bool
     ensures { (es : List (Entry R)) → Lies R.Record.encoded R.Record.long place.now bytes.now es → AllByRecursion (λ e. R.Record.numbers last_user e.number ≡ true) es → result ≡ list_all (λ e. all_there (T.Table.view table.now).at (R.Naming.names e.body)) es }
 {
+    // By turns, since the records are read out of bytes and stand in no slice.
     for turn in 0..place.count {
         let Some(item) = place.record::<R>(last_user, bytes, turn) else {
             return false;

@@ -20,6 +20,7 @@ pub(crate) fn put_all<R: Record + Drop, T: Table<Body = R>>(
     ensures change { (es : List (Entry R)) → Lies R.Record.encoded R.Record.long place.now bytes.now es → AllByRecursion (λ e. R.Record.numbers last_user e.number ≡ true) es → Agree (T.Table.view table.new) (replay (T.Table.view table.old) (puts es)) }
     ensures range { SameRange (T.Table.view table.new) (T.Table.view table.old) }
 {
+    // By turns, since the records are read out of bytes and stand in no slice.
     for turn in 0..place.count {
         let Some(item) = place.record::<R>(last_user, bytes, turn) else {
             return;

@@ -39,7 +39,8 @@ impl Place {
         bytes.get(start..start.checked_add(size)?)
     }
 
-    // The record of a turn, the first being 0, if its bytes are there and its fields in range.
+    // The record of a turn, the first being 0, if its bytes are there and its fields in range. The last user number and the
+    // bytes come one by one, as a caller has them: it has no struct of both.
     pub fn record<R: Record + Drop>(
         &self,
         last_user: u32,

@@ -17,6 +17,7 @@ use std::alloc::{AllocError, Global};
 #[derive(Drop)]
 pub struct Packed<B> {
     range: Range,
+    // No map of the library: it asks for memory at a put, and no call after `new` may.
     records: Vec<Entry<B>>,
     ghost ascends: { Ascends records.items },
     ghost within: { Within range.first range.last records.items },

@@ -18,6 +18,7 @@ use std::alloc::{AllocError, Global};
 pub struct Slots<B> {
     range: Range,
     places: Vec<Option<Entry<B>>>,
+    // How many places are full, which no length tells.
     held: usize,
     ghost sized: { vec_len places ≡ suc range.last - range.first },
     ghost each: { Named range.first places.items },
