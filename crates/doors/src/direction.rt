@@ -1,7 +1,7 @@
 // Which way a card was shown.
-ghost use Rattle.std.specs.Prelude.{◌≡◌};
+ghost use Rattle.std.specs.Prelude.{◌≡◌, Some};
 ghost use Rattle.std.specs.Option.{ok_or};
-ghost use Rattle.doors.specs.Numbers.{direction_byte, direction_of};
+ghost use Rattle.doors.specs.Numbers.{direction_byte, direction_of, no_direction_words};
 
 use std::error::Error;
 use std::fmt;
@@ -42,6 +42,8 @@ impl TryFrom<u8> for Direction {
 }
 
 impl fmt::Display for NoDirection {
+    ghost output = { λ e. Some (no_direction_words e.0) };
+
     fn fmt<W: fmt::Write>(&self, f: &mut fmt::Formatter<W>) -> fmt::Result {
         write!(f, "no direction has the number {}", self.0)
     }

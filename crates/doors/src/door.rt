@@ -1,6 +1,6 @@
 // One of the eight doors.
-ghost use Rattle.std.specs.Prelude.{◌≡◌, true, false, MatchResult};
-ghost use Rattle.doors.specs.Numbers.{door_number};
+ghost use Rattle.std.specs.Prelude.{◌≡◌, Some, true, false, MatchResult};
+ghost use Rattle.doors.specs.Numbers.{door_number, no_door_words};
 
 use std::error::Error;
 use std::fmt;
@@ -41,6 +41,8 @@ impl From<Door> for u8 {
 }
 
 impl fmt::Display for NoDoor {
+    ghost output = { λ e. Some (no_door_words e.0) };
+
     fn fmt<W: fmt::Write>(&self, f: &mut fmt::Formatter<W>) -> fmt::Result {
         write!(f, "no door has the number {}", self.0)
     }
