@@ -1,4 +1,5 @@
 // Cards at the doors of a small site, for two bundles of makes.
+use crate::MU;
 use access::answer::Answer;
 use access::events::answer;
 use access::{Makes, Tables};
@@ -11,8 +12,6 @@ use std::test::Fail;
 use tables::packed::Packed;
 use tables::slots::Slots;
 use tables::table::Table;
-
-const MU: u32 = 1000;
 
 // Users in a packed list and the rest in numbered places.
 struct Product;

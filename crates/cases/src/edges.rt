@@ -1,9 +1,8 @@
 // The edges of each field of each record.
+use crate::MU;
 use records::{Group, Holiday, Misfit, Record, TimeSet, User, Zone};
 use std::process::Abort;
 use std::test::Fail;
-
-const MU: u32 = 1000;
 
 // Reads bytes, and checks that they are in range or not, and that writing gives them back.
 fn check_record<R: Record + Drop>(

@@ -1,11 +1,10 @@
 // A frame for each command with the order that it asks for, and frames that fail at each question.
+use crate::MU;
 use orders::{AnswerRefusal, Command, Order, Refusal, SetUpRefusal, ShowRefusal, ask, read};
 use records::TimeSet;
 use std::alloc::{AllocError, Global};
 use std::process::Abort;
 use std::test::Fail;
-
-const MU: u32 = 1000;
 
 // A frame for TID 0001 with that body, whose last two bytes are off by `sum` and `last`.
 fn frame(heap: Global, command: u8, body: &[u8], sum: u8, last: u8) -> Result<Vec<u8>, AllocError> {

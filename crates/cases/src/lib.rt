@@ -19,3 +19,7 @@ mod numbers;
 mod streams;
 #[cfg(test)]
 mod texts;
+
+// The last user number of the controllers that are tried.
+#[cfg(test)]
+const MU: u32 = 1000;

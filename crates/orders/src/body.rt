@@ -48,7 +48,7 @@ impl BodySize {
         match self {
             BodySize::Fixed(size) => body.len() == size,
             BodySize::Counted(size) => match body {
-                [count, records @ ..] => records.len() == size.saturating_mul(*count as usize),
+                [count, records @ ..] => records.len() == size.saturating_mul(usize::from(*count)),
                 [] => false,
             },
         }

@@ -14,7 +14,7 @@ use crate::refusal::Refusal;
 use records::limits::NUMBER_SIZE;
 use records::{Record, User, card};
 
-const FEWEST_RECORDS: usize = 1;
+const FEWEST_RECORDS: u8 = 1;
 
 // Records begin behind their count.
 const COUNT_SIZE: usize = 1;
@@ -35,8 +35,7 @@ pub(crate) fn counted_records<R: Record + Drop>(
     let [count, records @ ..] = body else {
         return Err(Refusal::Range);
     };
-    let count = *count as usize;
-    if count < FEWEST_RECORDS {
+    if *count < FEWEST_RECORDS {
         return Err(Refusal::Range);
     }
     for bytes in records.chunks_exact(R::size()) {
@@ -44,7 +43,7 @@ pub(crate) fn counted_records<R: Record + Drop>(
     }
     Ok(Place {
         start: COUNT_SIZE,
-        count,
+        count: usize::from(*count),
     })
 }
 

@@ -22,4 +22,4 @@ loop-bytes-preserved g c =
 pub returns : goal.returns
 returns g c =
     let read = none_left g.R.Record.encoded g.R.Record.long (g.R.Record.ranges c.args.last_user) (g.R.Record.numbers c.args.last_user) (get_or c.args.body.now 0 0) (drop 1 c.args.body.now) _ (omega (arith, c.in-None.ensures.steps, c.loop-bytes.invariant.0)) c.loop-bytes.invariant.1 in
-    counted_done g.R.Record.encoded (g.R.Record.numbers c.args.last_user) g.R.Record.long c.args.body.now c.requires (omega arith) (omega (arith, c.type_inv.body 0)) read
+    rw c.from.ensures (counted_done g.R.Record.encoded (g.R.Record.numbers c.args.last_user) g.R.Record.long c.args.body.now c.requires (omega arith) (omega (arith, c.type_inv.body 0)) read)
