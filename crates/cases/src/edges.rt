@@ -93,12 +93,11 @@ fn groups_and_zones(rt: HostRuntime) -> Result<(), Fail> {
     Ok(())
 }
 
-// A user whose bytes are all different, with a byte changed.
-fn changed_user(place: usize, byte: u8) -> [u8; 84] {
+// A user whose bytes are all different.
+fn user() -> [u8; 84] {
     let mut bytes = [0u8; 84];
-    // By places, since each has a value of its own.
-    for i in 0..84usize {
-        bytes[i] = 100 + i as u8;
+    for (place, byte) in bytes.iter_mut().enumerate() {
+        *byte = 100u8.wrapping_add(place as u8);
     }
     bytes[0] = 0;
     bytes[1] = 0;
@@ -107,8 +106,14 @@ fn changed_user(place: usize, byte: u8) -> [u8; 84] {
     bytes[43] = 0;
     bytes[54] = 1;
     bytes[55] = 5;
-    if place < 84 {
-        bytes[place] = byte;
+    bytes
+}
+
+// The same user with a byte changed.
+fn changed_user(place: usize, value: u8) -> [u8; 84] {
+    let mut bytes = user();
+    if let Some(byte) = bytes.get_mut(place) {
+        *byte = value;
     }
     bytes
 }
@@ -116,8 +121,7 @@ fn changed_user(place: usize, byte: u8) -> [u8; 84] {
 #[test]
 fn users(rt: HostRuntime) -> Result<(), Fail> {
     for (place, byte, in_range) in [
-        (84usize, 0u8, true),
-        (3, 0xE9, false),
+        (3usize, 0xE9u8, false),
         (43, 1, false),
         (43, 2, false),
         (54, 0, true),
@@ -126,6 +130,7 @@ fn users(rt: HostRuntime) -> Result<(), Fail> {
     ] {
         check_record::<User>(&rt, &changed_user(place, byte), in_range)?;
     }
+    check_record::<User>(&rt, &user(), true)?;
     let mut nobody = changed_user(2, 0);
     nobody[3] = 0;
     check_record::<User>(&rt, &nobody, false)?;
@@ -150,7 +155,7 @@ fn windows(rt: HostRuntime) -> Result<(), Fail> {
         ([1, 24, 2, 29, 24, 0, 24, 3, 1, 8, 0], false),
         ([0, 255, 255, 255, 255, 255, 254, 253, 252, 251, 250], true),
     ] {
-        let mut bytes = changed_user(84, 0);
+        let mut bytes = user();
         set_window(&mut bytes, &window);
         check_record::<User>(&rt, &bytes, in_range)?;
     }

@@ -29,12 +29,9 @@ fn frame(heap: Global, command: u8, body: &[u8], sum: u8, last: u8) -> Result<Ve
     Ok(bytes)
 }
 
-// The number of the refusal, 0 where the frame passes.
-fn number(frame: &[u8]) -> u8 {
-    match ask(frame, MU) {
-        Ok(_) => 0,
-        Err(refusal) => u8::from(refusal),
-    }
+// The number of the refusal, if the frame is refused.
+fn number(frame: &[u8]) -> Option<u8> {
+    ask(frame, MU).err().map(u8::from)
 }
 
 fn check_number(
@@ -42,7 +39,7 @@ fn check_number(
     heap: Global,
     command: u8,
     body: &[u8],
-    wanted: u8,
+    wanted: Option<u8>,
 ) -> Result<(), Fail> {
     let bytes = frame(heap, command, body, 0, 0)?;
     assert_eq!(rt; number(&bytes), wanted);
@@ -55,14 +52,14 @@ fn every_command(rt: HostRuntime) -> Result<(), Fail> {
     for command in [
         2u8, 4, 6, 0x22, 0x26, 0x2A, 0x2E, 0x2F, 0x40, 0x41, 0x42, 0x48, 0x49, 0x4A,
     ] {
-        check_number(&rt, heap, command, &[], 0)?;
-        check_number(&rt, heap, command, &[0], 0x05)?;
+        check_number(&rt, heap, command, &[], None)?;
+        check_number(&rt, heap, command, &[0], Some(0x05))?;
     }
     for command in [1u8, 3, 8] {
-        check_number(&rt, heap, command, &[0, 0, 0, 0], 0)?;
-        check_number(&rt, heap, command, &[0, 0, 0], 0x05)?;
+        check_number(&rt, heap, command, &[0, 0, 0, 0], None)?;
+        check_number(&rt, heap, command, &[0, 0, 0], Some(0x05))?;
     }
-    check_number(&rt, heap, 5, &[0; 8], 0)?;
+    check_number(&rt, heap, 5, &[0; 8], None)?;
     for (command, lowest, highest) in [
         (0x21u8, 2u8, 255u8),
         (0x23, 2, 255),
@@ -72,14 +69,14 @@ fn every_command(rt: HostRuntime) -> Result<(), Fail> {
         (0x2B, 2, 255),
         (0x2D, 0, 99),
     ] {
-        check_number(&rt, heap, command, &[lowest], 0)?;
-        check_number(&rt, heap, command, &[highest], 0)?;
-        check_number(&rt, heap, command, &[], 0x05)?;
+        check_number(&rt, heap, command, &[lowest], None)?;
+        check_number(&rt, heap, command, &[highest], None)?;
+        check_number(&rt, heap, command, &[], Some(0x05))?;
         if lowest > 0 {
-            check_number(&rt, heap, command, &[1], 0x09)?;
+            check_number(&rt, heap, command, &[1], Some(0x09))?;
         }
         if highest < 255 {
-            check_number(&rt, heap, command, &[highest.wrapping_add(1)], 0x09)?;
+            check_number(&rt, heap, command, &[highest.wrapping_add(1)], Some(0x09))?;
         }
     }
     Ok(())
@@ -88,9 +85,15 @@ fn every_command(rt: HostRuntime) -> Result<(), Fail> {
 #[test]
 fn counted_bodies(rt: HostRuntime) -> Result<(), Fail> {
     let heap = rt.alloc();
-    check_number(&rt, heap, 0x20, &[1, 2, 8, 0, 17, 30], 0)?;
-    check_number(&rt, heap, 0x20, &[2, 2, 8, 0, 17, 30, 3, 8, 0, 8, 0], 0)?;
-    check_number(&rt, heap, 0x20, &[2, 2, 8, 0, 17, 30, 3, 22, 0, 6, 0], 0x09)?;
+    check_number(&rt, heap, 0x20, &[1, 2, 8, 0, 17, 30], None)?;
+    check_number(&rt, heap, 0x20, &[2, 2, 8, 0, 17, 30, 3, 8, 0, 8, 0], None)?;
+    check_number(
+        &rt,
+        heap,
+        0x20,
+        &[2, 2, 8, 0, 17, 30, 3, 22, 0, 6, 0],
+        Some(0x09),
+    )?;
     check_number(
         &rt,
         heap,
@@ -98,22 +101,28 @@ fn counted_bodies(rt: HostRuntime) -> Result<(), Fail> {
         &[
             1, 2, 0, 0, 0, 0, 0, 0, 0, 0, 0, 0, 0, 0, 0, 0, 0, 0, 0, 0, 0, 0, 0, 0, 0, 0,
         ],
-        0,
+        None,
     )?;
-    check_number(&rt, heap, 0x28, &[1, 2, 120, 0, 0, 0, 0, 0, 0, 0, 255], 0)?;
+    check_number(
+        &rt,
+        heap,
+        0x28,
+        &[1, 2, 120, 0, 0, 0, 0, 0, 0, 0, 255],
+        None,
+    )?;
     check_number(
         &rt,
         heap,
         0x28,
         &[1, 2, 121, 0, 0, 0, 0, 0, 0, 0, 255],
-        0x09,
+        Some(0x09),
     )?;
-    check_number(&rt, heap, 0x2C, &[1, 0, 12, 25], 0)?;
+    check_number(&rt, heap, 0x2C, &[1, 0, 12, 25], None)?;
     for command in [0x20u8, 0x24, 0x28, 0x2C] {
-        check_number(&rt, heap, command, &[], 0x05)?;
-        check_number(&rt, heap, command, &[0], 0x09)?;
-        check_number(&rt, heap, command, &[1], 0x05)?;
-        check_number(&rt, heap, command, &[1, 0], 0x05)?;
+        check_number(&rt, heap, command, &[], Some(0x05))?;
+        check_number(&rt, heap, command, &[0], Some(0x09))?;
+        check_number(&rt, heap, command, &[1], Some(0x05))?;
+        check_number(&rt, heap, command, &[1, 0], Some(0x05))?;
     }
     Ok(())
 }
@@ -121,11 +130,11 @@ fn counted_bodies(rt: HostRuntime) -> Result<(), Fail> {
 #[test]
 fn the_earlier_question_decides(rt: HostRuntime) -> Result<(), Fail> {
     let heap = rt.alloc();
-    assert_eq!(rt; number(&frame(heap, 0x04, &[], 0, 0)?), 0);
-    assert_eq!(rt; number(&frame(heap, 0x04, &[], 1, 1)?), 0x05);
-    assert_eq!(rt; number(&frame(heap, 0x99, &[1], 1, 0)?), 0x04);
-    assert_eq!(rt; number(&frame(heap, 0x99, &[1], 0, 0)?), 0x08);
-    assert_eq!(rt; number(&frame(heap, 0x2C, &[0, 0], 0, 0)?), 0x05);
+    assert_eq!(rt; number(&frame(heap, 0x04, &[], 0, 0)?), None);
+    assert_eq!(rt; number(&frame(heap, 0x04, &[], 1, 1)?), Some(0x05));
+    assert_eq!(rt; number(&frame(heap, 0x99, &[1], 1, 0)?), Some(0x04));
+    assert_eq!(rt; number(&frame(heap, 0x99, &[1], 0, 0)?), Some(0x08));
+    assert_eq!(rt; number(&frame(heap, 0x2C, &[0, 0], 0, 0)?), Some(0x05));
     assert!(rt; Command::try_from(0x2Cu8).is_ok());
     assert_eq!(rt; u8::from(Refusal::CardTaken), 0x40);
     assert_eq!(rt; u8::from(SetUpRefusal::Ranges), 0x61);
@@ -134,19 +143,21 @@ fn the_earlier_question_decides(rt: HostRuntime) -> Result<(), Fail> {
     Ok(())
 }
 
-// The byte of the command that a frame is read as, and the number that its order has, or 0.
-fn numbers(heap: Global, command: u8, body: &[u8]) -> Result<(u8, u32), Fail> {
+// The byte of the command that a frame is read as, and the number that its order has, if it has one.
+fn numbers(heap: Global, command: u8, body: &[u8]) -> Result<(u8, Option<u32>), Fail> {
     let bytes = frame(heap, command, body, 0, 0)?;
     let Ok((order, _)) = read(&bytes, MU) else {
         return Err(Fail::new("the frame is refused"));
     };
     let number = match order {
-        Order::DeleteUser(number) | Order::QueryUser(number) | Order::ReadUser(number) => number,
-        Order::DeleteTimeSet(number) | Order::ReadTimeSet(number) => number,
-        Order::DeleteZone(number) | Order::ReadZone(number) => number,
-        Order::DeleteGroup(number) | Order::ReadGroup(number) => number,
-        Order::DeleteHoliday(number) => number,
-        _ => 0,
+        Order::DeleteUser(number) | Order::QueryUser(number) | Order::ReadUser(number) => {
+            Some(number)
+        }
+        Order::DeleteTimeSet(number) | Order::ReadTimeSet(number) => Some(number),
+        Order::DeleteZone(number) | Order::ReadZone(number) => Some(number),
+        Order::DeleteGroup(number) | Order::ReadGroup(number) => Some(number),
+        Order::DeleteHoliday(number) => Some(number),
+        _ => None,
     };
     Ok((u8::from(order.command()), number))
 }
@@ -163,12 +174,12 @@ fn what_a_frame_asks(rt: HostRuntime) -> Result<(), Fail> {
     for command in [1u8, 3, 8] {
         let (byte, number) = numbers(heap, command, &[1, 2, 3, 4])?;
         assert_eq!(rt; byte, command);
-        assert_eq!(rt; number, 0x01020304);
+        assert_eq!(rt; number, Some(0x01020304));
     }
     for command in [0x21u8, 0x23, 0x25, 0x27, 0x29, 0x2B, 0x2D] {
         let (byte, number) = numbers(heap, command, &[77])?;
         assert_eq!(rt; byte, command);
-        assert_eq!(rt; number, 77);
+        assert_eq!(rt; number, Some(77));
     }
     Ok(())
 }
@@ -219,6 +230,6 @@ fn a_user_with_overwrite(rt: HostRuntime) -> Result<(), Fail> {
     let heap = rt.alloc();
     check_user(&rt, heap, 0)?;
     check_user(&rt, heap, 1)?;
-    check_number(&rt, heap, 0x07, &user_body(0xE8, 2), 0x09)?;
-    check_number(&rt, heap, 0x07, &user_body(0xE9, 1), 0x09)
+    check_number(&rt, heap, 0x07, &user_body(0xE8, 2), Some(0x09))?;
+    check_number(&rt, heap, 0x07, &user_body(0xE9, 1), Some(0x09))
 }

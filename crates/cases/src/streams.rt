@@ -109,9 +109,7 @@ fn limits_of_length(rt: HostRuntime) -> Result<(), Fail> {
             bytes.extend_from_slice(&COUNT_USERS)?;
         } else {
             bytes.extend_from_slice(&[0, 1])?;
-            for _ in 8..length {
-                bytes.push(7)?;
-            }
+            bytes.resize(length, 7)?;
         }
         check_ready(&rt, heap, &bytes, &[ready], "a LENGTH at a limit")?;
     }
