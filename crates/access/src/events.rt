@@ -13,7 +13,7 @@ use calendar::Minute;
 use doors::{Door, Event};
 use records::{Status, User, Window};
 
-// The user told where nobody has the card.
+// The user told where nobody has the card: no Option, as in `Answer`.
 const NOBODY: u32 = 0;
 
 // Both ends belong to the window.

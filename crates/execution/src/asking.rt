@@ -65,7 +65,8 @@ fn ask_user<M: Makes>(tables: &Tables<M>, new: &NewUser, bytes: &[u8]) -> Result
     found(!taken, Refusal::CardTaken)
 }
 
-// The questions that ask the tables, for an order in range: the first answered no refuses it.
+// The questions that ask the tables, for an order in range: the first answered no refuses it. The order and its bytes come one
+// by one, as a reader hands them over.
 pub fn ask_tables<M: Makes>(tables: &Tables<M>, order: &Order, bytes: &[u8]) -> Result<(), Refusal>
     ensures { (m : Meaning) → Brings order.now bytes.now m → Right ((M.Users.Table.view tables.now.users).high) m → result ≡ asked_tables (standing (⟦<Tables<M> as Site>⟧.views tables.now)) m }
 {

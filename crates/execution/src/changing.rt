@@ -12,6 +12,7 @@ use orders::Order;
 use tables::table::Table;
 
 // Changes one of the tables, or clears the log, as an order in range asks; other orders change nothing.
+// The order and its bytes come one by one, as a reader hands them over.
 pub fn change<M: Makes>(tables: &mut Tables<M>, journal: &mut Journal, order: &Order, bytes: &[u8])
     ensures { (m : Meaning) → Brings order.now bytes.now m → Right (M.Users.Table.view tables.old.users).high m → Done (deed m.0 m.1) (⟦<Tables<M> as Site>⟧.views tables.old) (⟦<Tables<M> as Site>⟧.views tables.new) (log journal.old) (log journal.new) }
 {

@@ -4,6 +4,7 @@ ghost use Rattle.std.specs.Prelude.{◌≡◌, length};
 #[derive(Clone, Copy)]
 pub struct Heading {
     pub(crate) tid: u16,
+    // 0 or the number of any of the refusals, which are four enums: a byte is what they have in common.
     pub(crate) result: u8,
     pub(crate) command: u8,
     pub(crate) mac: [u8; 6],

@@ -56,7 +56,7 @@ impl Place {
 }
 
 impl NewUser {
-    // The user, if its bytes are there and its fields in range.
+    // The user, if its bytes are there and its fields in range. The arguments come one by one, as in `Place::record`.
     pub fn user(&self, last_user: u32, bytes: &[u8]) -> Option<Entry<User>>
         ensures value { FindsUser last_user self.now bytes.now result }
         ensures all { (e : TableEntry Person) → LiesBehind self.now bytes.now e → user_may_have last_user e.number ≡ true → result ≡ Some e }

@@ -22,11 +22,11 @@ use Rattle.records.specs.Windows.{minute_bytes, minute_ranges, minute_said, vali
 pub year_back : (d : Date) → 2000 + (d.year - 2000) ≡ d.year
 year_back d = omega (arith, (real_parts d.year d.month d.day d.real).from_2000)
 
-minute_in_range : (m : Minute) → minute_ranges (minute_bytes m) ≡ true
+pub minute_in_range : (m : Minute) → minute_ranges (minute_bytes m) ≡ true
 minute_in_range m =
     and_from _ _ (ap (λ y. real_date y m.date.month m.date.day) (year_back m.date) ∙ m.date.real) (and_from _ _ (lt-ltb _ _ m.time.hours) (lt-ltb _ _ m.time.minutes))
 
-minute_is_said : (m : Minute) → minute_number m ≡ minute_said (minute_bytes m)
+pub minute_is_said : (m : Minute) → minute_number m ≡ minute_said (minute_bytes m)
 minute_is_said m = ap (λ y. 1440 * day_count y m.date.month m.date.day + minute_of_day m.time.hour m.time.minute) (sym (year_back m.date))
 
 -- ---- eleven bytes

@@ -1,18 +1,25 @@
 -- What a list of changes makes of a table, and when two tables are the same to a user.
-use Rattle.std.specs.Prelude.{◌≡◌, ℕ, List, [], ◌∷◌, Option}
+use Rattle.std.specs.Prelude.{◌≡◌, ℕ, List, [], ◌∷◌, None, Option}
 use Rattle.tables.specs.declared.edit.Edit.{Edit}
 use Rattle.tables.specs.declared.edit.Edit.TheVariants.{Put, Remove, Clear}
-use Rattle.tables.specs.Maps.{View, bare, putting, removing, count_of, start, Next}
+use Rattle.tables.specs.Maps.{Map, View, putting, removing, count_of, start, Next}
 
 module _ {B : Type 0} where
+  abbrev pub edited_at : View B → Edit B → Map B
+  edited_at v (Put e) = putting v.low v.high v.at e
+  edited_at v (Remove k) = removing v.at k
+  edited_at v Clear = λ n. None
+
+  -- the range stays
   abbrev pub edited : View B → Edit B → View B
-  edited v (Put e) = record { low = v.low; high = v.high; at = putting v.low v.high v.at e }
-  edited v (Remove k) = record { low = v.low; high = v.high; at = removing v.at k }
-  edited v Clear = bare v.low v.high
+  edited v e = record { low = v.low; high = v.high; at = edited_at v e }
+
+  abbrev pub replay_at : View B → List (Edit B) → Map B
+  replay_at v [] = v.at
+  replay_at v (e ∷ es) = replay_at (edited v e) es
 
   abbrev pub replay : View B → List (Edit B) → View B
-  replay v [] = v
-  replay v (e ∷ es) = replay (edited v e) es
+  replay v es = record { low = v.low; high = v.high; at = replay_at v es }
 
   abbrev pub SameRange : View B → View B → Type 0
   SameRange v w = (v.low ≡ w.low) × (v.high ≡ w.high)
