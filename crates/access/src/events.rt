@@ -39,6 +39,7 @@ fn user_event<M: Makes>(tables: &Tables<M>, user: &User, door: Door, minute: &Mi
     decide(tables, user.groups(), door, minute)
 }
 
+// The door and the minute come one by one, as a host has them.
 pub fn answer<M: Makes>(tables: &Tables<M>, card: u64, door: Door, minute: &Minute) -> Answer
     ensures value { result ≡ answered (standing (⟦<Tables<M> as Site>⟧.views tables.now)) card door.number minute.now }
     ensures laws { AccessLaws (standing (⟦<Tables<M> as Site>⟧.views tables.now)) card door.number minute.now result }

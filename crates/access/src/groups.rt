@@ -32,7 +32,8 @@ fn zone_for(group: &Group, door: Door) -> u8
     group.zones()[usize::from(place_of(door))]
 }
 
-// Does one of the groups open the door, and does one admit at this minute?
+// Does one of the groups open the door, and does one admit at this minute? The door and the minute come one by one, as in
+// `answer`.
 pub fn decide<M: Makes>(tables: &Tables<M>, groups: &[u8], door: Door, minute: &Minute) -> Event
     ensures { result ≡ groups_event (standing (⟦<Tables<M> as Site>⟧.views tables.now)) groups.now door.number minute.now }
 {

@@ -110,7 +110,7 @@ impl User {
     }
 }
 
-// The bytes of a user's number, whose field holds every u32.
+// The bytes of a user's number, whose field holds every u32: `to_be_bytes`, with these two facts told of it.
 fn number_array(number: u32) -> [u8; NUMBER_SIZE]
     ensures bytes { result ≡ four number }
     ensures holds { four_bytes_hold number ≡ true }

@@ -11,7 +11,7 @@ use crate::record::Misfit;
 use crate::window::{Kept, Validity, Window};
 use calendar::{Date, FIRST_YEAR, Minute, TimeOfDay};
 
-// The minute that five bytes name.
+// The minute that five bytes name. No TryFrom, since both types are of other crates.
 fn minute_of(bytes: &[u8; 5]) -> Result<Minute, Misfit>
     ensures { InRange Range (λ m. (minute_bytes m ≡ bytes.now) × (minute_number m ≡ minute_said bytes.now) × (minute_ranges bytes.now ≡ true)) (minute_ranges bytes.now) result }
 {
@@ -21,7 +21,7 @@ fn minute_of(bytes: &[u8; 5]) -> Result<Minute, Misfit>
     Ok(Minute::new(date, time))
 }
 
-// The five bytes of a minute.
+// The five bytes of a minute. No From, as above.
 fn minute_array(minute: &Minute) -> [u8; 5]
     ensures { result ≡ minute_bytes minute.now }
 {
@@ -31,7 +31,7 @@ fn minute_array(minute: &Minute) -> [u8; 5]
     [year, date.month(), date.day(), time.hour(), time.minute()]
 }
 
-// The validity that stands behind the state.
+// The validity that stands behind the state. No TryFrom, since the state, the first byte, is not asked here.
 fn validity_of(bytes: &[u8; 11]) -> Result<Validity, Misfit>
     ensures { InRange Range (λ v. (minute_bytes v.start ≡ between 1 6 bytes.now) × (minute_bytes v.end ≡ between 6 11 bytes.now) × (validity_ranges bytes.now ≡ true)) (validity_ranges bytes.now) result }
 {
