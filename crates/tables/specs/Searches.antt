@@ -1,11 +1,9 @@
--- A search among records that climb.
-use Rattle.std.specs.Prelude.{◌≡◌, ℕ, zero, suc, ◌+◌, ◌-◌, ◌<◌, ◌≤◌, List, length, Ok, Err, Result, MatchResult, slice_index_or}
-use Rattle.std.specs.Ordering.{nat_cmp, ordering_index}
-use Rattle.std.specs.List.Sorted.{IsBinarySearchResult}
-use Rattle.std.proofs.Common.{sym, ap, ⊎_elim, arith, tests}
+-- A search by halves among records that climb.
+use Rattle.std.specs.Prelude.{◌≡◌, ℕ, zero, suc, ◌+◌, ◌-◌, ◌<◌, ◌≤◌, List, length, slice_index_or}
+use Rattle.std.proofs.Common.{ap, ⊎_elim, arith}
+use Rattle.std.proofs.lemmas.List.{get_or_read}
 use Rattle.std.proofs.lemmas.Bool.{cases_eq}
-use Rattle.std.proofs.lemmas.Cmp.{ranked}
-use Rattle.tables.specs.Order.{Climbs, Located}
+use Rattle.tables.specs.Order.{Climbs}
 
 module _ {R : Type 0} (rank : R → ℕ) where
   -- n steps on
@@ -23,22 +21,32 @@ module _ {R : Type 0} (rank : R → ℕ) where
       let e : i + suc (j - i - 1) ≡ j = omega arith in
       rw e at (steps_on xs climbs i (j - i - 1) d (omega arith))
 
-  -- what a search by halves finds among records that climb
-  pub located_from_search : (k : ℕ) (xs : List R) (r : Result ℕ ℕ) → MatchResult r (λ i. i < length xs) (λ i. i ≤ length xs) → IsBinarySearchResult (λ y. nat_cmp (rank y) k) xs r → Climbs rank xs → Located rank k xs r
-  located_from_search k xs (Ok i) within found climbs = (within, λ d. ranked (rank (slice_index_or xs i d)) k _ (sym (found d)))
-  located_from_search k xs (Err i) within found climbs =
-      let parted = found (λ a b d le less. higher (rank (slice_index_or xs a d)) (rank (slice_index_or xs b d)) (rises a b d le less)) in (
-        within,
-        λ j d h. ranked (rank (slice_index_or xs j d)) k _ (sym (parted.0 j d (omega arith) h)),
-        λ j d h l. ranked (rank (slice_index_or xs j d)) k _ (sym (parted.1 j d h l)),
-      )
-    where
-      higher : (a b : ℕ) → a ≤ b → ordering_index (nat_cmp a k) ≤ ordering_index (nat_cmp b k)
-      higher a b le = grind (arith, tests)
+module _ {R : Type 0} (rank : R → ℕ) (k : ℕ) (xs : List R) where
+  -- all below `low` stand before k, and all from `high` on behind it
+  abbrev pub Narrowed : ℕ → ℕ → Type 0
+  Narrowed low high = ((j : ℕ) (d : R) → j < low → rank (slice_index_or xs j d) < k) × ((j : ℕ) (d : R) → high ≤ j → j < length xs → k < rank (slice_index_or xs j d))
 
-      rises : (a b : ℕ) (d : R) → a ≤ b → b < length xs → rank (slice_index_or xs a d) ≤ rank (slice_index_or xs b d)
-      rises a b d le less =
-          ⊎_elim
-          (λ (e : a ≡ b). let same = ap (λ (j : ℕ). rank (slice_index_or xs j d)) e in omega arith)
-          (λ (e : a ≡ b → ⊥). let up = climbs_far xs climbs a b d (omega arith) less in omega arith)
-          (cases_eq a b)
+  pub rank_read : (i : ℕ) (x d : R) → i < length xs → x ≡ slice_index_or xs i x → rank x ≡ rank (slice_index_or xs i d)
+  rank_read i x d less is = ap rank (get_or_read xs i x less is d)
+
+  pub narrow_up : (low high mid : ℕ) (x : R) → Climbs rank xs → Narrowed low high → mid < length xs → x ≡ slice_index_or xs mid x → rank x < k → Narrowed (mid + 1) high
+  narrow_up low high mid x climbs narrow less is before = (
+    λ j d h.
+        let here = rank_read mid x d less is in
+        ⊎_elim
+        (λ (q : j ≡ mid). let at = ap (λ (i : ℕ). rank (slice_index_or xs i d)) q in omega arith)
+        (λ (q : j ≡ mid → ⊥). let up = climbs_far rank xs climbs j mid d (omega arith) less in omega arith)
+        (cases_eq j mid),
+    narrow.1,
+  )
+
+  pub narrow_down : (low high mid : ℕ) (x : R) → Climbs rank xs → Narrowed low high → mid < length xs → x ≡ slice_index_or xs mid x → k < rank x → Narrowed low mid
+  narrow_down low high mid x climbs narrow less is behind = (
+    narrow.0,
+    λ j d h within.
+        let here = rank_read mid x d less is in
+        ⊎_elim
+        (λ (q : j ≡ mid). let at = ap (λ (i : ℕ). rank (slice_index_or xs i d)) q in omega arith)
+        (λ (q : j ≡ mid → ⊥). let up = climbs_far rank xs climbs mid j d (omega arith) within in omega arith)
+        (cases_eq j mid),
+  )

@@ -24,7 +24,18 @@ pub fn search<R: Keyed>(records: &[R], key: &R::Key) -> Result<usize, usize>
     ensures within { MatchResult result (λ i. i < length records.now) (λ i. i ≤ length records.now) }
     ensures located { Climbs R.Keyed.rank records.now → Located R.Keyed.rank (R.Keyed.sought key.now) records.now result }
 {
-    records.binary_search_by(|record| record.compare(key))
+    let mut low = 0;
+    let mut high = records.len();
+    // No `binary_search_by` of the library: it goes on to the end where the key is met on the way.
+    while low < high {
+        let mid = low + (high - low) / 2;
+        match records[mid].compare(key) {
+            Ordering::Less => low = mid + 1,
+            Ordering::Equal => return Ok(mid),
+            Ordering::Greater => high = mid,
+        }
+    }
+    Err(low)
 }
 
 // Moves the last record down to the place `to`: the second half of an insertion.
