@@ -1,5 +1,5 @@
--- One step of a walk, and how many records a walk meets.
-use Rattle.std.proofs.Common.{◌≡◌, ℕ, zero, suc, ◌+◌, ◌-◌, ◌<◌, ◌≤◌, List, [], ◌∷◌, ◌++◌, length, is_some, Bor, Some, None, Option, sym, refl, ap, ◌∙◌, ⊎_elim, zero-add, arith, rules}
+-- One step of a walk, and which records a walk meets.
+use Rattle.std.proofs.Common.{◌≡◌, ℕ, zero, suc, ◌+◌, ◌-◌, ◌<◌, ◌≤◌, List, [], ◌∷◌, ◌++◌, length, is_some, Bor, Some, None, Option, sym, refl, ap, ◌∙◌, ⊎_elim, arith, rules}
 use Rattle.std.specs.Prelude.{⊤}
 use Rattle.std.specs.Iterator.{MakesProgress, YieldsFirstBy, item_count}
 use Rattle.std.specs.Option.{MatchOption, option_map, option_to_list}
@@ -9,8 +9,7 @@ use Rattle.std.proofs.lemmas.Iterator.Consumers.{YieldsList-from_first}
 use Rattle.std.proofs.lemmas.List.{append-nil, append_assoc}
 use Rattle.tables.specs.declared.walk.Walk.{Walk}
 use Rattle.tables.specs.declared.entry.Entry.{Entry}
-use Rattle.tables.specs.Maps.{Map, View, one, many, count_of, start, Least}
-use Rattle.tables.specs.Counts.{many_zero}
+use Rattle.tables.specs.Maps.{Map, View, start, Least}
 use Rattle.tables.specs.Walks.{records_from, records_left, records_of}
 
 module _ {B : Type 0} where
@@ -37,30 +36,6 @@ module _ {B : Type 0} where
       ap (λ o. option_to_list o ++ records_from f (suc a) n) (least.none_before a (omega arith) (omega (arith, least.from)))
       ∙ (first_left f (suc a) n k e past (omega arith) is ∙ ap (λ m. e ∷ records_from f (suc k) m) rest))
       (cases_eq a k)
-
-  one_long : (o : Option (Entry B)) (es : List (Entry B)) → length (option_to_list o ++ es) ≡ one o + length es
-  one_long None es = omega arith
-  one_long (Some e) es = omega arith
-
-  -- a walk meets as many records as there are
-  many_met : (f : Map B) (a n : ℕ) → length (records_from f a n) + many f a ≡ many f (a + n)
-  unfolding records_from many
-  many_met f a zero = let e : a ≡ a + zero = omega arith in let same = ap (many f) e in omega arith
-  many_met f a (suc n) =
-      let here = one_long (f a) (records_from f (suc a) n) in
-      let rest = many_met f (suc a) n in
-      let e : suc a + n ≡ a + suc n = omega arith in
-      let end = ap (many f) e in
-      omega arith
-
-  pub count_met : (v : View B) → length (records_of v) ≡ count_of v
-  count_met v =
-      let met = many_met v.at 0 (suc v.high) in
-      let end = ap (many v.at) (zero-add (suc v.high)) in
-      let none = many_zero v.at in
-      let whole : suc v.high - 0 ≡ suc v.high = omega arith in
-      let all = ap (λ n. length (records_from v.at 0 n)) whole in
-      omega arith
 
   -- a step of a walk that meets a record
   pub walk_on : (v : View B) (a k : ℕ) (r : Option (Bor (Entry B))) → Least v.at a k → k ≤ v.high → option_map (λ x. x.now) r ≡ v.at k → MatchOption r ((records_left v a ≡ []) × (records_left v (k + 1) ≡ [])) (λ x. records_left v a ≡ x.now ∷ records_left v (k + 1))

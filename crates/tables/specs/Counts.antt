@@ -1,12 +1,12 @@
 -- How many numbers of a map have a record.
-use Rattle.std.specs.Prelude.{◌≡◌, ℕ, zero, suc, ◌+◌, ◌<◌, ◌≤◌, Some, None, Option, ◌≢◌}
+use Rattle.std.specs.Prelude.{◌≡◌, ℕ, zero, suc, ◌+◌, ◌<◌, ◌≤◌, Bool, cond, Some, None, Option, ◌≢◌}
 use Rattle.std.proofs.Math.Path.{refl, ap}
 use Rattle.std.proofs.Common.{sym}
 use Rattle.std.proofs.Math.Logic.{⊎_elim}
 use native.Mathlib.Omega.{arith}
 use Rattle.std.proofs.lemmas.Bool.{cases_eq}
 use Rattle.tables.specs.declared.entry.Entry.{Entry}
-use Rattle.tables.specs.Maps.{Map, one, many}
+use Rattle.tables.specs.Maps.{Map, one, many, Least}
 
 module _ {B : Type 0} where
   pub one_le : (o : Option (Entry B)) → one o ≤ 1
@@ -55,6 +55,15 @@ module _ {B : Type 0} where
   pub many_empty : (f : Map B) (n : ℕ) → ((m : ℕ) → f m ≡ None) → many f n ≡ 0
   unfolding many
   many_empty f n none = many_none f 0 n (omega arith) (λ m _ _. none m)
+
+  -- one step of a walk
+  pub many_least : (f : Map B) (a k : ℕ) → Least f a k → many f (k + 1) ≡ many f a + 1
+  unfolding many
+  many_least f a k least =
+      let e : k + 1 ≡ suc k = omega arith in
+      let before = many_none f a k least.from least.none_before in
+      let here : one (f k) ≡ 1 = ap (λ (b : Bool). cond b 1 0) least.there in
+      rw e (omega arith)
 
   pub many_zero : (f : Map B) → many f 0 ≡ 0
   unfolding many
