@@ -28,7 +28,8 @@ pub struct Slots<B> {
 fn empty_places<B: Drop>(heap: Global, size: usize) -> Result<Vec<Option<Entry<B>>>, AllocError>
     ensures { IfOk result (λ v. (vec_len v ≡ size) × ((k : ℕ) → slice_index_or v.items k None ≡ None)) }
 {
-    let mut places = Vec::new(heap);
+    // Room for `size` places and no more: `resize_with` of an empty `Vec` takes more where few are wanted.
+    let mut places = Vec::with_capacity(heap, size)?;
     places.resize_with(size, || None)?;
     Ok(places)
 }
