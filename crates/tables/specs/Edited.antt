@@ -1,7 +1,7 @@
 -- What a put and a removal leave under each number.
-use Rattle.std.specs.Prelude.{◌≡◌, ℕ, true, Some, None, ◌≢◌}
+use Rattle.std.specs.Prelude.{◌≡◌, ℕ, true, false, Some, None, ◌≢◌}
 use Rattle.std.proofs.Common.{sym, ap, ◌∙◌, ⊎_elim}
-use Rattle.std.proofs.lemmas.Bool.{cases_eq, eq-eqb, ne_eqb, and_from, and_right, cond-true, cond-false}
+use Rattle.std.proofs.lemmas.Bool.{cases_eq, eq-eqb, ne_eqb, and_from, and_left, and_right, cond-true, cond-false}
 use Rattle.tables.specs.declared.entry.Entry.{Entry}
 use Rattle.tables.specs.Maps.{Map, inside, putting, removing}
 
@@ -11,6 +11,9 @@ module _ {B : Type 0} (low high : ℕ) (f : Map B) (e : Entry B) where
 
   pub putting_other : (n : ℕ) → (n ≢ e.number) → putting low high f e n ≡ f n
   putting_other n other = cond-false _ _ _ (and_right _ _ (ne_eqb _ _ other))
+
+  pub putting_outside : (n : ℕ) → inside low high e.number ≡ false → putting low high f e n ≡ f n
+  putting_outside n out = cond-false _ _ _ (and_left _ _ out)
 
   pub put_from : (g : Map B) → inside low high e.number ≡ true → g e.number ≡ Some e → ((m : ℕ) → (m ≢ e.number) → g m ≡ f m) → (n : ℕ) → g n ≡ putting low high f e n
   put_from g within here others n =

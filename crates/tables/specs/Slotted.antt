@@ -1,5 +1,5 @@
 -- The map of a list of places.
-use Rattle.std.specs.Prelude.{◌≡◌, ℕ, zero, suc, ◌+◌, ◌-◌, ◌<◌, ◌≤◌, true, List, [], ◌∷◌, ◌++◌, length, drop, take, get_or, is_some, Some, None, Option, Vec, MatchOption, ◌≢◌, slice_index_or, slice_set, refl}
+use Rattle.std.specs.Prelude.{◌≡◌, ℕ, zero, suc, ◌+◌, ◌-◌, ◌<◌, ◌≤◌, true, false, List, [], ◌∷◌, ◌++◌, length, drop, take, get_or, is_some, Some, None, Option, Vec, MatchOption, ◌≢◌, slice_index_or, slice_set, refl}
 use Rattle.std.proofs.Math.Seq.{take-nil}
 use Rattle.std.proofs.Common.{sym, ap, ◌∙◌, ⊎_elim, arith}
 use Rattle.std.specs.List.{AllWithin, AppendsResults, FoldsTo, HoldsAt, slice_range}
@@ -7,10 +7,12 @@ use Rattle.std.specs.Option.{option_map}
 use Rattle.std.specs.Vec.{with_items}
 use Rattle.std.proofs.lemmas.Bool.{both_ways, cases_eq, cases_lt, lt-ltb, le-ltb, cond-true, cond-false}
 use Rattle.std.proofs.lemmas.List.{get_or-take, get_or-drop, get_or-set_same, get_or-set_other, get_or_past, with_items_is}
+use Rattle.std.proofs.lemmas.Bool.Decides.{nat_tests}
 use Rattle.tables.specs.declared.entry.Entry.{Entry}
-use Rattle.tables.specs.Maps.{one, many, Next}
+use Rattle.tables.specs.Maps.{one, many, inside, putting, removing, Next}
 use Rattle.tables.specs.Placed.{slot, Named}
 use Rattle.tables.specs.Counts.{many_change}
+use Rattle.tables.specs.Edited.{put_from, remove_from}
 
 module _ {B : Type 0} (low : ℕ) (xs : List (Option (Entry B))) where
   pub slot_below : (n : ℕ) → n < low → slot low xs n ≡ None
@@ -42,6 +44,33 @@ module _ {B : Type 0} (low : ℕ) (xs : List (Option (Entry B))) where
       let number = named (n - low) e (sym (slot_from n within.0) ∙ is) in
       omega arith
 
+  pub slot_outside : (high n : ℕ) → length xs ≡ suc high - low → inside low high n ≡ false → slot low xs n ≡ None
+  slot_outside high n sized out =
+      ⊎_elim
+      (λ (h : n < low). slot_below n h)
+      (λ (h : low ≤ n). slot_past n (let above : high < n = grind (arith, nat_tests) in omega arith))
+      (cases_lt n low)
+
+  pub slot_remove_outside : (high k : ℕ) → length xs ≡ suc high - low → inside low high k ≡ false → (n : ℕ) → slot low xs n ≡ removing (slot low xs) k n
+  slot_remove_outside high k sized out = remove_from (slot low xs) k (slot low xs) (slot_outside high k sized out) (λ m other. refl)
+
+  -- a walk over the places is a walk over the numbers
+  pub next_slot : (a : ℕ) (r : Option ℕ) → Next (λ k. get_or xs k None) (a - low) r → Next (slot low xs) a (option_map (λ k. low + k) r)
+  next_slot a None none = λ n from.
+      ⊎_elim
+      (λ (h : n < low). slot_below n h)
+      (λ (h : low ≤ n). slot_from n h ∙ none (n - low) (omega arith))
+      (cases_lt n low)
+  next_slot a (Some k) least = record {
+    from = omega (arith, least.from);
+    there = let e : low + k - low ≡ k = omega arith in ap is_some (slot_from (low + k) (omega arith) ∙ ap (λ (j : ℕ). get_or xs j None) e) ∙ least.there;
+    none_before = λ n from before.
+        ⊎_elim
+        (λ (h : n < low). slot_below n h)
+        (λ (h : low ≤ n). slot_from n h ∙ least.none_before (n - low) (omega arith) (omega arith))
+        (cases_lt n low);
+  }
+
 module _ {B : Type 0} (low : ℕ) (xs : List (Option (Entry B))) (at : ℕ) (place : Option (Entry B)) where
   pub slot_set_same : at < length xs → slot low (slice_set xs at place) (low + at) ≡ place
   slot_set_same h =
@@ -55,6 +84,18 @@ module _ {B : Type 0} (low : ℕ) (xs : List (Option (Entry B))) (at : ℕ) (pla
       (λ (h : low ≤ n).
       slot_from low (slice_set xs at place) n h ∙ (get_or-set_other xs at (n - low) place None (λ q. ne (omega arith)) ∙ sym (slot_from low xs n h)))
       (cases_lt n low)
+
+  pub slot_put : (high : ℕ) (e : Entry B) → place ≡ Some e → at < length xs → inside low high e.number ≡ true → e.number ≡ low + at → (n : ℕ) → slot low (slice_set xs at place) n ≡ putting low high (slot low xs) e n
+  slot_put high e is less within number =
+      put_from low high (slot low xs) e (slot low (slice_set xs at place)) within
+      (ap (slot low (slice_set xs at place)) number ∙ (slot_set_same less ∙ is))
+      (λ m other. slot_set_other m (λ q. other (q ∙ sym number)))
+
+  pub slot_remove : (k : ℕ) → place ≡ None → at < length xs → k ≡ low + at → (n : ℕ) → slot low (slice_set xs at place) n ≡ removing (slot low xs) k n
+  slot_remove k is less number =
+      remove_from (slot low xs) k (slot low (slice_set xs at place))
+      (ap (slot low (slice_set xs at place)) number ∙ (slot_set_same less ∙ is))
+      (λ m other. slot_set_other m (λ q. other (q ∙ sym number)))
 
   pub named_set : at < length xs → Named low xs → ((e : Entry B) → place ≡ Some e → e.number ≡ low + at) → Named low (slice_set xs at place)
   named_set less named here k e is =
@@ -75,6 +116,12 @@ module _ {B : Type 0} (low : ℕ) (xs : List (Option (Entry B))) (at : ℕ) (pla
 module _ {B : Type 0} where
   pub many_has : (low : ℕ) (xs : List (Option (Entry B))) (at n : ℕ) → at < length xs → low + at < n → one (slice_index_or xs at None) ≤ many (slot low xs) n
   many_has low xs at n less within = omega (arith, many_set low xs at None n less within)
+
+  pub none_push : (xs : List (Option (Entry B))) → ((k : ℕ) → slice_index_or xs k None ≡ None) → (k : ℕ) → slice_index_or (xs ++ None ∷ []) k None ≡ None
+  none_push [] none zero = refl
+  none_push [] none (suc k) = refl
+  none_push (x ∷ xs) none zero = none zero
+  none_push (x ∷ xs) none (suc k) = none_push xs (λ j. none (suc j)) k
 
   -- the first full place of those from `from` on
   pub next_place : (xs : List (Option (Entry B))) (from : ℕ) (ahead : List (Option (Entry B))) (r : Option ℕ) → ahead ≡ slice_range xs from (length xs) → length ahead + from ≡ length xs → MatchOption r (AllWithin (λ o. o ≡ None) ahead 0 (length ahead)) (λ i. (i < length ahead) × HoldsAt (λ o. is_some o ≡ true) ahead i × AllWithin (λ o. o ≡ None) ahead 0 i) → Next (λ k. slice_index_or xs k None) from (option_map (λ i. from + i) r)
