@@ -1,8 +1,10 @@
 -- What the loops of `hex` keep, and the laws of reading and printing.
-use Rattle.std.proofs.Common.{◌≡◌, ℕ, ◌+◌, ◌*◌, ◌/◌, ◌%◌, ◌<◌, Bool, true, false, eqb, List, [], ◌∷◌, ◌++◌, length, get_or, take, Some, None, Ok, Err, Option, Result, sym, refl, ap, ◌∙◌, arith}
+use Rattle.std.proofs.Common.{◌≡◌, ℕ, zero, suc, ◌+◌, ◌*◌, ◌/◌, ◌%◌, ◌<◌, ◌≤◌, Bool, true, false, eqb, List, [], ◌∷◌, ◌++◌, length, get_or, take, drop, set, IsAscii, Some, None, Ok, Err, Option, Result, sym, refl, ap, subst, ◌∙◌, arith}
 use Rattle.std.specs.Char.{to_ascii_uppercase}
-use Rattle.std.specs.List.{AllByRecursion}
-use Rattle.std.proofs.lemmas.List.{take_more}
+use Rattle.std.specs.List.{AllByRecursion, flat_map}
+use Rattle.std.proofs.Math.Seq.{take-length}
+use Rattle.std.proofs.lemmas.List.{take_more, take_more_set, take_at, take-append-drop, length-set}
+use Rattle.std.proofs.lemmas.Grind.{flat_map-append}
 use Rattle.std.proofs.lemmas.Bool.Decides.{nat_tests}
 use Rattle.script.specs.declared.hex.HexFault.{HexFault}
 use Rattle.script.specs.Hex.{digit_of, figure_of, onto, turn, hex_from, hex_text, normal, ReadsPrinted, PrintsNormal, ReadsBytes}
@@ -15,6 +17,9 @@ Low (Some d) = d < 16
 -- a figure is not a space, and is the digit of its value
 pub figure_reads : (n : ℕ) → n < 16 → digit_of (figure_of n) ≡ Some n
 figure_reads n h = grind (arith, nat_tests)
+
+pub figure_ascii : (n : ℕ) → n < 16 → figure_of n < 128
+figure_ascii n h = grind (arith, nat_tests)
 
 -- bytes read before the others
 abbrev pub after : List ℕ → Result (List ℕ) HexFault → Result (List ℕ) HexFault
@@ -100,3 +105,46 @@ hex_text-append (x ∷ xs) ys = ap (λ l. figure_of (x / 16) ∷ figure_of (x % 
 -- one more byte printed
 pub hex_more : (bs : List ℕ) (i : ℕ) → i < length bs → hex_text (take i bs) ++ hex_text (get_or bs i 0 ∷ []) ≡ hex_text (take (i + 1) bs)
 hex_more bs i h = sym (ap hex_text (take_more bs i 0 h) ∙ hex_text-append (take i bs) (get_or bs i 0 ∷ []))
+
+-- the digits of the first bytes of a piece, each pair in its place
+pub record Laid (piece : List ℕ) (i : ℕ) (pairs : List (List ℕ)) : Type 0 where
+  pub room : length pairs ≡ 16
+  pub digits : flat_map (λ x. x) (take i pairs) ≡ hex_text (take i piece)
+  pub ascii : IsAscii (hex_text (take i piece))
+
+ascii_append : (xs ys : List ℕ) → IsAscii xs → IsAscii ys → IsAscii (xs ++ ys)
+ascii_append [] ys left right i = right i
+ascii_append (x ∷ xs) ys left right zero = left 0
+ascii_append (x ∷ xs) ys left right (suc i) = ascii_append xs ys (λ k. left (suc k)) right i
+
+byte_ascii : (b : ℕ) → b < 256 → IsAscii (hex_text (b ∷ []))
+byte_ascii b small zero = figure_ascii (b / 16) (omega arith)
+byte_ascii b small (suc zero) = figure_ascii (b % 16) (omega arith)
+byte_ascii b small (suc (suc i)) = omega arith
+
+pub laid_more : (piece : List ℕ) (i : ℕ) (pairs : List (List ℕ)) (pair : List ℕ) → Laid piece i pairs → i < length piece → length piece ≤ 16 → get_or piece i 0 < 256 → pair ≡ hex_text (get_or piece i 0 ∷ []) → Laid piece (i + 1) (set pairs i pair)
+laid_more piece i pairs pair laid less short small is = record {
+  room = length-set pairs i pair ∙ laid.room;
+  digits =
+      ap (flat_map (λ x. x)) (take_more_set pairs i pair (omega (arith, laid.room))) ∙ (flat_map-append (λ x. x) (take i pairs) (pair ∷ []) ∙ (ap (λ l. l ++ (pair ++ [])) laid.digits ∙ (ap (λ l. hex_text (take i piece) ++ (l ++ [])) is ∙ hex_more piece i less)));
+  ascii = subst IsAscii (hex_more piece i less) (ascii_append (hex_text (take i piece)) (hex_text (get_or piece i 0 ∷ [])) laid.ascii (byte_ascii (get_or piece i 0) small));
+}
+
+hex_text-length : (bs : List ℕ) → length (hex_text bs) ≡ 2 * length bs
+hex_text-length [] = refl
+hex_text-length (b ∷ bs) = let more = hex_text-length bs in omega arith
+
+-- a whole piece: its digits are the first of the room
+pub laid_whole : (piece : List ℕ) (pairs : List (List ℕ)) → Laid piece (length piece) pairs → (take (2 * length piece) (flat_map (λ x. x) pairs) ≡ hex_text piece) × IsAscii (hex_text piece)
+laid_whole piece pairs laid =
+    let n = length piece in
+    let whole : take n piece ≡ piece = take-length piece in
+    let front : flat_map (λ x. x) (take n pairs) ≡ hex_text piece = laid.digits ∙ ap hex_text whole in
+    let cut : flat_map (λ x. x) pairs ≡ flat_map (λ x. x) (take n pairs) ++ flat_map (λ x. x) (drop n pairs) = ap (flat_map (λ x. x)) (sym (take-append-drop n pairs)) ∙ flat_map-append (λ x. x) (take n pairs) (drop n pairs) in (
+      ap (take (2 * n)) cut ∙ (take_at (flat_map (λ x. x) (take n pairs)) (flat_map (λ x. x) (drop n pairs)) (2 * n) (ap length front ∙ hex_text-length piece) ∙ front),
+      subst IsAscii (ap hex_text whole) laid.ascii,
+    )
+
+-- one piece more printed
+pub pieces_more : (done piece : List ℕ) → hex_text done ++ hex_text piece ≡ hex_text (done ++ piece)
+pieces_more done piece = sym (hex_text-append done piece)

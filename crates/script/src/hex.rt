@@ -1,6 +1,7 @@
 // Bytes as text: two hexadecimal digits a byte.
-ghost use Rattle.std.specs.Prelude.{◌≡◌, ◌<◌, IfSome, Some, IfOk, string_bytes};
-ghost use Rattle.script.specs.Hex.{digit_of, hex_bytes, hex_text, ReadsPrinted, PrintsNormal, ReadsBytes};
+ghost use Rattle.std.specs.Prelude.{◌≡◌, ◌*◌, ◌<◌, ◌≤◌, [], ◌∷◌, length, take, IsAscii, IfSome, Some, IfOk, string_bytes};
+ghost use Rattle.std.specs.List.{flat_map};
+ghost use Rattle.script.specs.Hex.{digit_of, figure_of, hex_bytes, hex_text, ReadsPrinted, PrintsNormal, ReadsBytes};
 ghost use Rattle.script.specs.Outcome.{AnswersAs};
 ghost use Rattle.script.specs.declared.hex.HexFault.TheVariants.{Memory};
 
@@ -58,6 +59,41 @@ pub fn from_hex(heap: Global, text: &[u8]) -> Result<Vec<u8>, HexFault>
     }
 }
 
+// The digit of a value below 16.
+fn figure(value: u8) -> u8
+    requires { value < 16 }
+    ensures { result ≡ figure_of value }
+{
+    if value < 10 {
+        b'0' + value
+    } else {
+        b'A' - 10 + value
+    }
+}
+
+// The digits of a byte.
+fn pair_of(byte: u8) -> [u8; 2]
+    ensures { result ≡ hex_text (byte ∷ []) }
+{
+    [figure(byte / 16), figure(byte % 16)]
+}
+
+// How many bytes are printed at once.
+const PIECE: usize = 16;
+
+// The digits of all bytes of a piece, in front of what is left of the room.
+fn pairs_of(piece: &[u8]) -> [[u8; 2]; PIECE]
+    requires { length piece.now ≤ 16 }
+    ensures digits { take (2 * length piece.now) (flat_map (λ x. x) result) ≡ hex_text piece.now }
+    ensures ascii { IsAscii (hex_text piece.now) }
+{
+    let mut pairs = [[0; 2]; PIECE];
+    for (i, byte) in piece.iter().enumerate() {
+        pairs[i] = pair_of(*byte);
+    }
+    pairs
+}
+
 // Bytes as they print: two digits each, in upper case and without spaces.
 #[derive(Clone, Copy)]
 pub(crate) struct Hex<'a>(pub(crate) &'a [u8]);
@@ -65,9 +101,12 @@ pub(crate) struct Hex<'a>(pub(crate) &'a [u8]);
 impl fmt::Display for Hex<'_> {
     ghost output = { λ h. Some (hex_text h.0.now) };
 
+    // By pieces: a formatter that is asked for one byte at a time, as by `{byte:02X}`, takes several times as long.
     fn fmt<W: fmt::Write>(&self, f: &mut fmt::Formatter<W>) -> fmt::Result {
-        for &byte in self.0 {
-            write!(f, "{byte:02X}")?;
+        for piece in self.0.chunks(PIECE) {
+            let pairs = pairs_of(piece);
+            let digits = &pairs.as_flattened()[..2 * piece.len()];
+            f.write_str(str::from_utf8(digits).unwrap())?;
         }
         Ok(())
     }
