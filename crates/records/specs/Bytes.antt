@@ -9,6 +9,13 @@ use Rattle.std.proofs.lemmas.Bool.{and_from, and_parts, leb-true, le-leb, lt-ltb
 use Rattle.records.specs.declared.record.Misfit.{Misfit}
 use Rattle.records.specs.Codec.{Writes, one_byte}
 
+pub three_bytes : (bs : List ℕ) → length bs ≡ 3 → slice_index bs 0 ∷ slice_index bs 1 ∷ slice_index bs 2 ∷ [] ≡ bs
+three_bytes [] few = absurd (omega arith)
+three_bytes (a ∷ []) few = absurd (omega arith)
+three_bytes (a ∷ b ∷ []) few = absurd (omega arith)
+three_bytes (a ∷ b ∷ c ∷ []) few = refl
+three_bytes (a ∷ b ∷ c ∷ d ∷ bs) many = absurd (omega arith)
+
 pub four_bytes : (bs : List ℕ) → length bs ≡ 4 → slice_index bs 0 ∷ slice_index bs 1 ∷ slice_index bs 2 ∷ slice_index bs 3 ∷ [] ≡ bs
 four_bytes [] few = absurd (omega arith)
 four_bytes (a ∷ []) few = absurd (omega arith)
@@ -16,6 +23,15 @@ four_bytes (a ∷ b ∷ []) few = absurd (omega arith)
 four_bytes (a ∷ b ∷ c ∷ []) few = absurd (omega arith)
 four_bytes (a ∷ b ∷ c ∷ d ∷ []) few = refl
 four_bytes (a ∷ b ∷ c ∷ d ∷ e ∷ bs) many = absurd (omega arith)
+
+pub five_bytes : (bs : List ℕ) → length bs ≡ 5 → slice_index bs 0 ∷ slice_index bs 1 ∷ slice_index bs 2 ∷ slice_index bs 3 ∷ slice_index bs 4 ∷ [] ≡ bs
+five_bytes [] few = absurd (omega arith)
+five_bytes (a ∷ []) few = absurd (omega arith)
+five_bytes (a ∷ b ∷ []) few = absurd (omega arith)
+five_bytes (a ∷ b ∷ c ∷ []) few = absurd (omega arith)
+five_bytes (a ∷ b ∷ c ∷ d ∷ []) few = absurd (omega arith)
+five_bytes (a ∷ b ∷ c ∷ d ∷ e ∷ []) few = refl
+five_bytes (a ∷ b ∷ c ∷ d ∷ e ∷ f ∷ bs) many = absurd (omega arith)
 
 pub within : (low high n : ℕ) → low ≤ n → n ≤ high → (nat_le low n && nat_le n high) ≡ true
 within low high n from to = and_from _ _ (le-leb low n from) (le-leb n high to)

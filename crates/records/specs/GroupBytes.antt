@@ -1,11 +1,11 @@
 -- The bytes of a group.
-use Rattle.std.specs.Prelude.{◌≡◌, true, [], ◌∷◌, length, slice_index}
+use Rattle.std.specs.Prelude.{◌≡◌, ℕ, ◌+◌, ◌<◌, ◌≤◌, true, false, ◌&&◌, List, [], ◌∷◌, ◌++◌, length, drop, slice_index}
 use Rattle.std.proofs.Common.{sym, ap, ◌∙◌, arith}
 use Rattle.std.proofs.Math.Bool.{Bool-set}
 use mathlib.Core.HLevel.{is_prop→PathP}
 use Rattle.std.specs.List.{between}
-use Rattle.std.proofs.lemmas.List.{length-append, take_at, get_or_at}
-use Rattle.std.proofs.lemmas.Bool.{and_from}
+use Rattle.std.proofs.lemmas.List.{length-append, take_at, get_or_at, drop_more, drop-drop, drop_all, take-append-drop}
+use Rattle.std.proofs.lemmas.Bool.{and_from, le-leb, lt-leb}
 use Rattle.tables.specs.declared.entry.Entry.{Entry}
 use Rattle.records.specs.Bytes.{long_over}
 use Rattle.records.specs.declared.group.Group.{Group}
@@ -38,3 +38,21 @@ apart e f is =
         named = is_prop→PathP (λ j. zones_named (zones j) ≡ true) (λ j. Bool-set (zones_named (zones j)) true) e.body.named f.body.named i;
       };
     }
+
+-- ---- zone numbers, one after the other
+
+pub zones_more : (zs : List ℕ) (i : ℕ) → i < length zs → slice_index zs i ≤ 120 → zones_named (drop i zs) ≡ zones_named (drop (i + 1) zs)
+zones_more zs i within right =
+    ap zones_named (drop_more zs i 0 within) ∙ ap (λ t. t && zones_named (drop (i + 1) zs)) (le-leb (slice_index zs i) 120 right)
+
+pub zones_fail : (zs : List ℕ) (i : ℕ) → i < length zs → 120 < slice_index zs i → zones_named (drop i zs) ≡ false
+zones_fail zs i within wrong =
+    ap zones_named (drop_more zs i 0 within) ∙ ap (λ t. t && zones_named (drop (i + 1) zs)) (lt-leb (slice_index zs i) 120 wrong)
+
+-- ---- ten bytes, as a group has them
+
+pub ten_bytes : (bs : List ℕ) → length bs ≡ 10 → slice_index bs 0 ∷ (between 1 9 bs ++ (slice_index bs 9 ∷ [])) ≡ bs
+ten_bytes bs ten =
+    let first = drop_more bs 0 0 (omega arith) in
+    let last : drop 8 (drop 1 bs) ≡ slice_index bs 9 ∷ [] = drop-drop 8 1 bs ∙ drop_more bs 9 0 (omega arith) ∙ ap (λ l. slice_index bs 9 ∷ l) (drop_all 10 bs (omega arith)) in
+    ap (λ l. slice_index bs 0 ∷ (between 1 9 bs ++ l)) (sym last) ∙ ap (λ l. slice_index bs 0 ∷ l) (take-append-drop 8 (drop 1 bs)) ∙ sym first

@@ -1,6 +1,6 @@
 -- The bytes of a time set.
-use Rattle.std.specs.Prelude.{◌≡◌, ◌≤◌, true, slice_index}
-use Rattle.std.proofs.Common.{ap}
+use Rattle.std.specs.Prelude.{◌≡◌, ℕ, ◌≤◌, true, List, slice_index}
+use Rattle.std.proofs.Common.{ap, arith}
 use mathlib.Core.HLevel.{is_prop→PathP}
 use Rattle.std.proofs.Math.Bridge.{le_prop}
 use Rattle.std.proofs.lemmas.Bool.{and_from, lt-ltb, le-leb}
@@ -10,6 +10,13 @@ use Rattle.calendar.proofs.Same.{same_time}
 use Rattle.tables.specs.declared.entry.Entry.{Entry}
 use Rattle.records.specs.declared.time_set.TimeSet.{TimeSet}
 use Rattle.records.specs.TimeSets.{time_set_number, time_set_bytes, time_set_ranges}
+
+-- bytes that two times were read of
+pub ranges_read : (bs : List ℕ) (start end : TimeOfDay) → time_set_number (slice_index bs 0) ≡ true → (start.hour ≡ slice_index bs 1) × (start.minute ≡ slice_index bs 2) → (end.hour ≡ slice_index bs 3) × (end.minute ≡ slice_index bs 4) → minute_of_day start.hour start.minute ≤ minute_of_day end.hour end.minute → time_set_ranges bs ≡ true
+ranges_read bs start end right s e ordered =
+    and_from _ _ right
+    (and_from _ _ (and_from _ _ (lt-ltb (slice_index bs 1) 24 (omega (arith, start.hours))) (lt-ltb (slice_index bs 2) 60 (omega (arith, start.minutes))))
+    (and_from _ _ (and_from _ _ (lt-ltb (slice_index bs 3) 24 (omega (arith, end.hours))) (lt-ltb (slice_index bs 4) 60 (omega (arith, end.minutes)))) (le-leb (minute_of_day (slice_index bs 1) (slice_index bs 2)) (minute_of_day (slice_index bs 3) (slice_index bs 4)) (omega arith))))
 
 time_right : (t : TimeOfDay) → real_time t.hour t.minute ≡ true
 time_right t = and_from _ _ (lt-ltb t.hour 24 t.hours) (lt-ltb t.minute 60 t.minutes)

@@ -1,6 +1,6 @@
 -- The bytes of a user.
-use Rattle.std.specs.Prelude.{◌≡◌, ℕ, ◌+◌, ◌/◌, ◌%◌, ◌^◌, ◌<◌, ◌≤◌, true, ◌&&◌, List, [], ◌∷◌, ◌++◌, length, take, drop, nat_le, slice_index, slice_index_or, refl}
-use Rattle.std.proofs.Common.{sym, ap, ◌∙◌, arith}
+use Rattle.std.specs.Prelude.{◌≡◌, ℕ, ◌+◌, ◌*◌, ◌/◌, ◌%◌, ◌^◌, ◌<◌, ◌≤◌, true, false, ◌&&◌, List, [], ◌∷◌, ◌++◌, length, take, drop, nat_le, slice_index, slice_index_or, refl}
+use Rattle.std.proofs.Common.{sym, ap, subst, ◌∙◌, arith, ⊎_elim}
 use mathlib.Core.HLevel.{is_prop→PathP}
 use Rattle.std.proofs.Math.Bridge.{le_prop}
 use Rattle.std.proofs.Math.Nat.{div-div-eq-div-mul}
@@ -8,16 +8,22 @@ use Rattle.std.specs.Int.{w32, w64, from_be_bytes, to_be_bytes}
 use Rattle.std.specs.Int.Digits.{number_from_digits as number}
 use Rattle.std.specs.List.{between}
 use Rattle.std.proofs.lemmas.Nat.{be_bytes_4, from_be_bytes-to_be_bytes_4, from_be_bytes-to_be_bytes_8}
-use Rattle.std.proofs.lemmas.List.{length-append, length-drop, take-append-drop, drop-drop, drop_more, take_all, take_at, drop_at, get_or-drop}
-use Rattle.std.proofs.lemmas.Bool.{ltb-true, le-leb, and_from, and_parts}
+use Rattle.std.proofs.lemmas.List.{length-append, length-drop, take-append-drop, drop-drop, drop_more, take_all, take_at, drop_at, get_or-take, get_or-drop, get_or_past, length-take}
+use Rattle.std.proofs.lemmas.Bool.{cases_lt, ltb-true, le-leb, lt-leb, and_from, and_parts, and_left, and_right}
 use Rattle.records.specs.Bytes.{four_bytes, long_over}
 use Rattle.tables.specs.declared.entry.Entry.{Entry}
 use Rattle.records.specs.declared.user.Status.{Status}
 use Rattle.records.specs.declared.user.Status.TheVariants.{Off, Active}
 use Rattle.records.specs.declared.user.User.{User}
-use Rattle.records.specs.Users.{four, card_bytes, status_byte, user_bytes, user_ranges, user_number, four_bytes_hold}
+use Rattle.records.specs.Users.{four, card_bytes, status_byte, user_bytes, rest_ranges, user_ranges, user_number, four_bytes_hold}
 use Rattle.records.specs.Windows.{window_bytes, window_ranges}
 use Rattle.records.specs.WindowBytes.{window_sized, window_apart, window_right}
+
+-- each byte of a part is a byte
+pub part_byte : (bs : List ℕ) (at n : ℕ) → ((i : ℕ) → slice_index bs i < 256) → (i : ℕ) → slice_index (take n (drop at bs)) i < 256
+part_byte bs at n bytes i =
+    ⊎_elim (λ within. subst (λ b. b < 256) (sym (get_or-take n (drop at bs) i 0 within ∙ get_or-drop at bs i 0)) (bytes (at + i)))
+    (λ past. subst (λ b. b < 256) (sym (get_or_past (take n (drop at bs)) i 0 (omega (arith, length-take n (drop at bs))))) (omega arith)) (cases_lt i n)
 
 -- ---- numbers of four bytes and of eight
 
@@ -32,6 +38,12 @@ four_back bs long bytes = be_bytes_4 bs (number 256 bs) long bytes (ap (number 2
 
 pub number_back : (n : ℕ) → n < 4294967296 → number 256 (four n) ≡ n
 number_back n small = four_digits _ _ _ _ ∙ from_be_bytes-to_be_bytes_4 n small
+
+pub card_back : (bs : List ℕ) (high low : ℕ) → length bs ≡ 8 → four high ≡ take 4 bs → four low ≡ take 4 (drop 4 bs) → low < 4294967296 → card_bytes (high * 4294967296 + low) ≡ bs
+card_back bs high low long h l small =
+    let upper : (high * 4294967296 + low) / 4294967296 ≡ high = omega arith in
+    let lower : (high * 4294967296 + low) % 4294967296 ≡ low = omega arith in
+    (λ i. four (upper i) ++ four (lower i)) ∙ (λ i. h i ++ l i) ∙ ap (λ r. take 4 bs ++ r) (take_all 4 (drop 4 bs) (omega (arith, length-drop 4 bs))) ∙ take-append-drop 4 bs
 
 -- a card byte by byte, and by its two halves
 pub card_is : (c : ℕ) → to_be_bytes w64 c ≡ card_bytes c
@@ -52,13 +64,27 @@ card_number c small = ap (number 256) (sym (card_is c)) ∙ eight_digits _ _ _ _
 pub same_card : (c d : ℕ) → c < 2 ^ 64 → d < 2 ^ 64 → card_bytes c ≡ card_bytes d → c ≡ d
 same_card c d small small' is = sym (card_number c small) ∙ ap (number 256) is ∙ card_number d small'
 
--- ---- the parts of the bytes behind a user's number
+-- ---- the parts of a user's bytes, and of those behind its number
 
 cut_on : (bs : List ℕ) (n at next : ℕ) → at + n ≡ next → take n (drop at bs) ++ drop next bs ≡ drop at bs
 cut_on bs n at next is = ap (λ l. take n (drop at bs) ++ l) (ap (λ k. drop k bs) (sym is) ∙ sym (drop-drop n at bs)) ∙ take-append-drop n (drop at bs)
 
 one_on : (bs : List ℕ) (at next : ℕ) → at < length bs → at + 1 ≡ next → slice_index bs at ∷ drop next bs ≡ drop at bs
 one_on bs at next within is = ap (λ k. slice_index bs at ∷ drop k bs) (sym is) ∙ sym (drop_more bs at 0 within)
+
+pub user_cut : (bs : List ℕ) → length bs ≡ 84 → take 4 bs ++ (between 4 12 bs ++ (between 12 43 bs ++ (between 43 54 bs ++ (slice_index bs 54 ∷ slice_index bs 55 ∷ (between 56 60 bs ++ (slice_index bs 60 ∷ (between 61 69 bs ++ between 69 84 bs))))))) ≡ bs
+user_cut bs long =
+    let rest = length-drop 69 bs in
+    let reserved : between 69 84 bs ≡ drop 69 bs = take_all 15 (drop 69 bs) (omega arith) in
+    let password = ap (λ l. between 61 69 bs ++ l) reserved ∙ cut_on bs 8 61 69 refl in
+    let bypass = ap (λ l. slice_index bs 60 ∷ l) password ∙ one_on bs 60 61 (omega arith) refl in
+    let groups = ap (λ l. between 56 60 bs ++ l) bypass ∙ cut_on bs 4 56 60 refl in
+    let kind = ap (λ l. slice_index bs 55 ∷ l) groups ∙ one_on bs 55 56 (omega arith) refl in
+    let status = ap (λ l. slice_index bs 54 ∷ l) kind ∙ one_on bs 54 55 (omega arith) refl in
+    let window = ap (λ l. between 43 54 bs ++ l) status ∙ cut_on bs 11 43 54 refl in
+    let name = ap (λ l. between 12 43 bs ++ l) window ∙ cut_on bs 31 12 43 refl in
+    let card = ap (λ l. between 4 12 bs ++ l) name ∙ cut_on bs 8 4 12 refl in
+    ap (λ l. take 4 bs ++ l) card ∙ take-append-drop 4 bs
 
 pub rest_cut : (bs : List ℕ) → length bs ≡ 80 → between 0 8 bs ++ (between 8 39 bs ++ (between 39 50 bs ++ (slice_index bs 50 ∷ slice_index bs 51 ∷ (between 52 56 bs ++ (slice_index bs 56 ∷ (between 57 65 bs ++ between 65 80 bs)))))) ≡ bs
 rest_cut bs long =
@@ -198,11 +224,29 @@ status_right : (s : Status) → nat_le (status_byte s) 1 ≡ true
 status_right Off = refl
 status_right Active = refl
 
+-- what is asked of the bytes behind the number, each at its place in the whole
+rest_at : (bs : List ℕ) → rest_ranges (drop 4 bs) ≡ (window_ranges (between 43 54 bs) && (nat_le (slice_index bs 54) 1 && nat_le (slice_index bs 55) 5))
+rest_at bs = λ i. window_ranges (take 11 (drop-drop 39 4 bs i)) && (nat_le (get_or-drop 4 bs 50 0 i) 1 && nat_le (get_or-drop 4 bs 51 0 i) 5)
+
+pub ranges_from : (last : ℕ) (bs : List ℕ) (n status kind : ℕ) (window : List ℕ) → number 256 (between 0 4 bs) ≡ n → between 43 54 bs ≡ window → slice_index bs 54 ≡ status → slice_index bs 55 ≡ kind → user_number last n ≡ true → window_ranges window ≡ true → nat_le status 1 ≡ true → nat_le kind 5 ≡ true → user_ranges last bs ≡ true
+ranges_from last bs n status kind window n_is w_is s_is k_is right right_w right_s right_k =
+    and_from _ _ (ap (user_number last) n_is ∙ right)
+    (rest_at bs ∙ and_from _ _ (ap window_ranges w_is ∙ right_w) (and_from _ _ (ap (λ b. nat_le b 1) s_is ∙ right_s) (ap (λ b. nat_le b 5) k_is ∙ right_k)))
+
 pub ranges_right : (last : ℕ) (e : Entry User) → (user_number last e.number && four_bytes_hold e.number) ≡ true → user_ranges last (user_bytes e) ≡ true
 ranges_right last e right =
     let u = e.body in
     let parts = and_parts _ _ right in
     let f = fields e parts.1 in
-    and_from _ _ (ap (user_number last) f.number ∙ parts.0)
-    (and_from _ _ (ap window_ranges f.window ∙ window_right u.window)
-    (and_from _ _ (ap (λ b. nat_le b 1) f.status ∙ status_right u.status) (ap (λ b. nat_le b 5) f.kind ∙ le-leb u.kind 5 u.kinds)))
+    ranges_from last (user_bytes e) e.number (status_byte u.status) u.kind (window_bytes u.window) f.number f.window f.status f.kind parts.0 (window_right u.window) (status_right u.status) (le-leb u.kind 5 u.kinds)
+
+pub kind_wrong : (last : ℕ) (bs : List ℕ) → 5 < slice_index bs 55 → user_ranges last bs ≡ false
+kind_wrong last bs wrong =
+    and_right (user_number last (number 256 (between 0 4 bs))) _ (rest_at bs ∙ and_right (window_ranges (between 43 54 bs)) _ (and_right (nat_le (slice_index bs 54) 1) _ (lt-leb (slice_index bs 55) 5 wrong)))
+
+pub window_wrong : (last : ℕ) (bs : List ℕ) → window_ranges (between 43 54 bs) ≡ false → user_ranges last bs ≡ false
+window_wrong last bs wrong = and_right (user_number last (number 256 (between 0 4 bs))) _ (rest_at bs ∙ and_left (window_ranges (between 43 54 bs)) _ wrong)
+
+pub status_wrong : (last : ℕ) (bs : List ℕ) → nat_le (slice_index bs 54) 1 ≡ false → user_ranges last bs ≡ false
+status_wrong last bs wrong =
+    and_right (user_number last (number 256 (between 0 4 bs))) _ (rest_at bs ∙ and_right (window_ranges (between 43 54 bs)) _ (and_left (nat_le (slice_index bs 54) 1) _ wrong))

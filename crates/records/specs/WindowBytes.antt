@@ -5,7 +5,7 @@ use mathlib.Core.HLevel.{is_prop→PathP}
 use Rattle.std.proofs.Math.Bridge.{le_prop}
 use Rattle.std.specs.List.{between}
 use Rattle.std.proofs.lemmas.List.{drop_more, drop-drop, take-append-drop, take_all, length-drop}
-use Rattle.std.proofs.lemmas.Bool.{and_from, or_right, lt-ltb, le-leb, eq-eqb}
+use Rattle.std.proofs.lemmas.Bool.{and_from, or_left, or_right, lt-ltb, le-leb, eq-eqb}
 use Rattle.calendar.specs.declared.date.Date.{Date}
 use Rattle.calendar.specs.declared.minute.Minute.{Minute}
 use Rattle.calendar.specs.Days.{real_date, day_count, minute_of_day}
@@ -29,13 +29,25 @@ minute_in_range m =
 pub minute_is_said : (m : Minute) → minute_number m ≡ minute_said (minute_bytes m)
 minute_is_said m = ap (λ y. 1440 * day_count y m.date.month m.date.day + minute_of_day m.time.hour m.time.minute) (sym (year_back m.date))
 
+pub minute_read : (bs : List ℕ) (m : Minute) → minute_bytes m ≡ bs → (minute_ranges bs ≡ true) × (minute_number m ≡ minute_said bs)
+minute_read bs m is = (ap minute_ranges (sym is) ∙ minute_in_range m, minute_is_said m ∙ ap minute_said is)
+
 -- ---- eleven bytes
+
+pub window_cut : (bs : List ℕ) → length bs ≡ 11 → slice_index bs 0 ∷ between 1 11 bs ≡ bs
+window_cut bs eleven = ap (λ l. slice_index bs 0 ∷ l) (take_all 10 (drop 1 bs) (omega (arith, length_of_rest))) ∙ sym (drop_more bs 0 0 (omega arith))
+  where
+    length_of_rest : length (drop 1 bs) ≡ length bs - 1
+    length_of_rest = length-drop 1 bs
 
 pub validity_cut : (bs : List ℕ) → length bs ≡ 11 → slice_index bs 0 ∷ (between 1 6 bs ++ between 6 11 bs) ≡ bs
 validity_cut bs eleven =
     let rest = length-drop 6 bs in
     let last : between 6 11 bs ≡ drop 5 (drop 1 bs) = take_all 5 (drop 6 bs) (omega arith) ∙ sym (drop-drop 5 1 bs) in
     ap (λ l. slice_index bs 0 ∷ (between 1 6 bs ++ l)) last ∙ ap (λ l. slice_index bs 0 ∷ l) (take-append-drop 5 (drop 1 bs)) ∙ sym (drop_more bs 0 0 (omega arith))
+
+pub unused_in_range : (bs : List ℕ) → slice_index bs 0 ≡ 0 → window_ranges bs ≡ true
+unused_in_range bs is = or_left _ _ (eq-eqb (slice_index bs 0) 0 is)
 
 pub used_in_range : (bs : List ℕ) → slice_index bs 0 ≡ 1 → validity_ranges bs ≡ true → window_ranges bs ≡ true
 used_in_range bs is right = or_right _ _ (and_from _ _ (eq-eqb (slice_index bs 0) 1 is) right)
