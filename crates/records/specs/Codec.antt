@@ -20,6 +20,6 @@ Writes size holds bytes before after (Err Range) = (holds ≡ false) × (after �
 abbrev pub one_byte : ℕ → Bool
 one_byte n = nat_lt n 256
 
--- it is `right` exactly where the answer is a value, of which `told` says more; else it is the error `wrong`
+-- of a value `told` says what holds; an error is `wrong`, and comes only where `right` is false
 abbrev pub InRange : {A E : Type 0} → E → (A → Type 0) → Bool → Result A E → Type 0
 InRange wrong told right result = MatchResult result told (λ e. (e ≡ wrong) × (right ≡ false))
