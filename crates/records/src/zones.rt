@@ -48,11 +48,16 @@ impl Record for Zone {
     fn from_bytes(_last_user: u32, bytes: &[u8]) -> Result<Entry<Zone>, Misfit> {
         let bytes = bytes.as_array::<ZONE_SIZE>().ok_or(Misfit::Size)?;
         let number = number_within(FIRST_ZONE, LAST_ZONE, bytes[0])?;
-        let (sets, _) = bytes[1..].as_chunks();
-        let rows = sets.as_array().unwrap().map(
+        let (sets, _) = bytes[1..].as_chunks::<3>();
+        // Byte by byte out of what is lent, so that the rows come out as one copy; moved by value they were eight copies of three bytes.
+        let rows = sets.as_array::<8>().unwrap().each_ref().map(
             |sets| -> Row
-                ensures { result.sets ≡ sets }
-            { Row { sets } },
+                ensures { result.sets ≡ sets.now }
+            {
+                Row {
+                    sets: [sets[0], sets[1], sets[2]],
+                }
+            },
         );
         let body = Zone { rows };
         Ok(Entry { number, body })
